@@ -1,4 +1,4 @@
--- What is told of the operator's money is conserved.
+-- What is reported of the operator's money is conserved.
 use Rattle.std.specs.Prelude.{◌≡◌, ◌+◌, List, ⊤}
 use Rattle.cct_model.specs.terms.device.Setup.{Setup}
 use Rattle.cct_model.specs.lines.entry.Entry.{Entry}

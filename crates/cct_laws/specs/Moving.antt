@@ -1,5 +1,5 @@
--- That a reading has to be made again tells of a coin: one was accepted between its two accept
--- counters. And it is none of a stop.
+-- That a reading has to be made again shows that a coin came: one was accepted between its two
+-- accept counters. And it is none of a stop.
 use Rattle.std.specs.Prelude.{◌<◌, List, [], ◌∷◌, length, ⊤}
 use Rattle.cct_model.specs.lines.command.Command.TheVariants as command
 use Rattle.cct_model.specs.lines.entry.End.TheVariants.{Moved}

@@ -8,7 +8,7 @@ use Rattle.cct_model.specs.Reply.{Reply}
 use Rattle.cct_model.specs.Reply as reply
 use Rattle.cct_model.specs.Line.{Line, exchange, put}
 
--- The hopper told that nothing is left to pay: an answered header 166 with no coin remaining.
+-- The hopper answered that nothing is left to pay: an answered header 166 with no coin remaining.
 abbrev pub shows_none : Option Request → Option Reply → Bool
 shows_none (Some GetStatus) (Some (reply.status events left_to_pay paid unpaid)) = left_to_pay == 0
 shows_none asked got = false
@@ -18,7 +18,7 @@ abbrev pub paid_out_by : Record → Bool → Bool
 paid_out_by (record_of.Opened id addr count life) before = false
 paid_out_by r before = before
 
--- Whether the hopper has told that nothing is left to pay, and no order was opened since.
+-- Whether the hopper has answered that nothing is left to pay, and no order was opened since.
 abbrev pub is_paid_out : List Line → Bool
 is_paid_out [] = false
 is_paid_out (put entry ∷ past) = paid_out_by entry (is_paid_out past)

@@ -1,4 +1,4 @@
--- What records alone tell: those among the lines of an address, what the operator has, and how many
+-- What records alone show: those among the lines of an address, what the operator has, and how many
 -- are held where no job runs.
 use Rattle.std.specs.Prelude.{◌≡◌, ℕ, List, [], ◌∷◌, Option, Some, None, ⊤}
 use Rattle.cct_model.specs.terms.device.DeviceSetup.{DeviceSetup}

@@ -15,9 +15,9 @@ use Rattle.cct_laws.specs.Tallying.{AlwaysTallies}
 -- The money of a transcript is right. No two records use one id, for an order that is opened or for
 -- a sale. Where the wire was honest, the posts of each device are its accepted coins in order, none
 -- twice. At each device that kept the pace, none is lost in silence, and after each line the coins
--- up to the mark are as many as its records post and tell to be lost. At each hopper, each order is
--- paid at most once, and closed with exactly the coins that fell. And the transcript tells by
--- itself whether the wire was honest: exactly if no entry tells of a forged exchange.
+-- up to the mark are as many as its records post and report as lost. At each hopper, each order is
+-- paid at most once, and closed with exactly the coins that fell. And the transcript shows by
+-- itself whether the wire was honest: exactly if no entry reports a forged exchange.
 pub record IsRight (setup : Setup) (transcript : List Entry) : Type 0 where
   pub fresh : AreFresh (records (onto [] transcript))
   pub in_order : (d : DeviceSetup) → IsOf setup d → Honest transcript →

@@ -109,7 +109,7 @@ quiet_seen d past _ accepting (elsewhere e meets_are own_are) =
     (sym (ap₂ (λ ms ls. world_by (ms ++ met d past) (ls ++ lines_of d past)) meets_are own_are))
     (quiet_refl (world_of d past))
 
--- lines that tell of no piece
+-- lines that show no piece
 pub same_with : (ms : List Met) (lines : List Line) (x : Line) (b : Bool) → coins (x ∷ lines) ≡ coins lines →
     pieces (x ∷ lines) ≡ pieces lines → world_by ms (cond b (x ∷ []) [] ++ lines) ≡ world_by ms lines
 same_with ms lines x true no_coin no_piece =

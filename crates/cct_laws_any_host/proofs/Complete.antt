@@ -89,7 +89,7 @@ all_masked at (s ∷ past) now runs =
     (all_both (SpanIn at before) (IsMasked at) (spans past) (all_spans at past before runs.2)
     (all_masked at past before runs.2))))
 
--- event counters tell a whole where few events came
+-- event counters show a whole where few events came
 pub near_where_few : (new old : ℕ) → new ≤ 5 → are_near (counter old) (counter (new + old)) ≡ true
 unfolding distance
 near_where_few new old few = grind (arith, nat_tests)

@@ -1,5 +1,6 @@
--- No premise is told to be broken of a hopper, over a run of any host: what is known of its serial number, of whether it may
--- pay, of what it has left to pay, of its life count and of its event counter is so.
+-- No premise is reported as broken of a hopper, over a run of any host: what is known of its serial
+-- number, of whether it may pay, of what it has left to pay, of its life count and of its event
+-- counter is so.
 use Rattle.std.proofs.Common.{◌≡◌, ◌⊎◌, inl, inr, ℕ, zero, suc, ◌+◌, ◌-◌, ◌%◌, ◌^◌, ◌<◌, ◌≤◌, ◌==◌, ◌&&◌, ◌||◌, not, nat_le, Bool, true, false, cond, List, [], ◌∷◌, ◌++◌, length, map, refl, ap, ap₂, sym, ◌∙◌, subst, arith, eq-eqb, le_refl, Option, Some, None}
 use Rattle.std.specs.Prelude.{⊤}
 use Rattle.std.proofs.lemmas.Bool.Decides.{nat_tests}
@@ -338,7 +339,7 @@ plain_off ms (Some (Enable code)) plain off = plain
 plain_off ms (Some ResetDevice) plain off = refl
 plain_off ms (Some q) plain off = off
 
--- no premise is told to be broken, and what is known is so after it
+-- no premise is reported as broken, and what is known is so after it
 record Fine (addr number own start : ℕ) (ns : List Met) (k : KnownHopper) (s : Deed) : Type 0 where
   silent : hopper_broken_by addr number s k ≡ []
   known : Knows own start ns (hopper_on number s k)
@@ -925,12 +926,12 @@ module _ (setup : Setup) (d : DeviceSetup) (sound : IsSoundSetup setup) (own : I
 abbrev pub deeds : DeviceSetup → List Entry → List Deed
 deeds d past = map (deed d.kind d.addr) (taps past)
 
--- all that is told to be broken at taps that showed this, newest first
+-- all that is reported as broken at taps that showed this, newest first
 abbrev pub all_wrong : ℕ → List Deed → List Said
 all_wrong addr [] = []
 all_wrong addr (s ∷ past) = all_wrong addr past ++ hopper_broken_at addr s past
 
--- what is known is so, and nothing was told to be broken
+-- what is known is so, and nothing was reported as broken
 abbrev Shows : DeviceSetup → List Met → List Tap → Type 0
 Shows d ms ts =
     Knows d.serial (start_of d.body) ms (hopper_after (map (deed d.kind d.addr) ts))

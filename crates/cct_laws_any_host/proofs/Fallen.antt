@@ -1,4 +1,4 @@
--- What is said of a hopper is true: as many coins fell between two life counts as they tell.
+-- What is said of a hopper is true: as many coins fell between two life counts as they show.
 use Rattle.std.proofs.Common.{◌≡◌, ℕ, suc, ◌+◌, ◌<◌, ◌≤◌, List, [], ◌∷◌, length, refl, sym, subst, arith, Option, Some, None, All}
 use Rattle.std.specs.Prelude.{◌%◌, ◌^◌, ⊤}
 use Rattle.std.proofs.lemmas.List.Elements.{All-append, All-cons, All-nil}

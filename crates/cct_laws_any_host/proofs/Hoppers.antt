@@ -36,7 +36,7 @@ use Rattle.cct_laws_any_host.proofs.Wire.{told_life}
 abbrev fallen : DeviceSetup → List Entry → ℕ
 fallen d past = all_fallen (lines_of d past)
 
--- lines that tell of no fall
+-- lines that show no fall
 dosed : (asked : Option ℕ) (lines : List Line) → all_fallen (dispensed_by asked ++ lines) ≡ all_fallen lines
 dosed None lines = refl
 dosed (Some count) lines = refl

@@ -1,5 +1,5 @@
--- No premise is told to be broken of an acceptor of coins or of bills, over a run of any host: what is known of its mask is so,
--- and after a reset nothing is let in before a mask is asked for.
+-- No premise is reported as broken of an acceptor of coins or of bills, over a run of any host:
+-- what is known of its mask is so, and after a reset nothing is let in before a mask is asked for.
 use Rattle.std.proofs.Common.{◌≡◌, ◌⊎◌, inl, inr, ℕ, zero, suc, ◌==◌, ◌||◌, ◌&&◌, Bool, true, false, cond, List, [], ◌∷◌, ◌++◌, length, map, take, replicate, refl, ap, ap₂, sym, ◌∙◌, subst, arith, eq-eqb, Option, Some, None}
 use Rattle.std.specs.Prelude.{⊤, is_none}
 use Rattle.std.specs.List.{list_any}
@@ -238,7 +238,7 @@ is_fresh_now (Bill counted values ids) ms taking = record { shut = refl; none = 
 
 -- ---- what a tap shows
 
--- nothing is told to be broken, and the known mask is right after it
+-- nothing is reported as broken, and the known mask is right after it
 record Fine (addr number : ℕ) (body : DeviceBody) (ns : List Met) (found : Option KnownMask) (s : Sign) : Type 0 where
   silent : broken_by addr number s found ≡ []
   known : IfKnown body ns (known_on number s found)
@@ -420,12 +420,12 @@ module _ (money : Money) (setup : Setup) (d : DeviceSetup) (sound : IsSoundSetup
 abbrev pub premise_signs : Money → DeviceSetup → List Entry → List Sign
 premise_signs money d past = map (sign money d.kind d.addr) (taps past)
 
--- all that is told to be broken at taps that showed this, newest first
+-- all that is reported as broken at taps that showed this, newest first
 abbrev pub all_broken : ℕ → List Sign → List Said
 all_broken addr [] = []
 all_broken addr (s ∷ past) = all_broken addr past ++ broken_at addr s past
 
--- what is known is so, and nothing was told to be broken
+-- what is known is so, and nothing was reported as broken
 abbrev Shows : Money → DeviceSetup → List Met → List Tap → Type 0
 Shows money d ms ts =
     IfKnown d.body ms (known_after (map (sign money d.kind d.addr) ts))

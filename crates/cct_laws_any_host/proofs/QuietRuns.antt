@@ -237,7 +237,7 @@ still_hears (Acceptor counted values ids) serial ms ls q taking placed = coins_h
 still_hears (Hopper life value) serial ms ls q taking placed = absurd taking
 still_hears (Bill counted values ids) serial ms ls q taking placed = bills_hear counted values ids serial ms ls q placed
 
--- lines that tell of no piece
+-- lines that show no piece
 with_line : (body : DeviceBody) (ms : List Met) (lines : List Line) (x : Line) (b : Bool) → coins (x ∷ lines) ≡ coins lines →
     pieces (x ∷ lines) ≡ pieces lines → moment_by body ms (cond b (x ∷ []) [] ++ lines) ≡ moment_by body ms lines
 with_line body ms lines x false no_coin no_piece = refl

@@ -34,7 +34,7 @@ abbrev pub AllWild : Setup → List Entry → Type 0
 AllWild setup [] = ⊤
 AllWild setup (e ∷ past) = Wild setup past e × AllWild setup past
 
--- what a step outside the host tells is reported
+-- what a step outside the host brings is reported
 told_same : (s : Step) (news : List Entry) → IsOutside s → told_of s news ≡ news
 told_same (step.Next addr) news is = absurd is
 told_same s news is = refl

@@ -205,7 +205,7 @@ bill_run = (
   ),
 )
 
--- it is told to be stacked between the third exchange and the fifth; while it was held it was none
+-- it is reported as stacked between the third exchange and the fifth; while it was held it was none
 abbrev bills_watched : Watch
 bills_watched = record { addr = 40; kind = Simple; family = watched_as.QuietAcceptor Bills }
 

@@ -136,8 +136,8 @@ AreQuiet d past first last posted =
     resets_before d past last ≡ resets_before d past first →
     AreSure d past (events_before d past) first last posted
 
--- What a monitor tells of a hopper is true: as many coins fell between two life counts, where that
--- is below 2 ^ 24.
+-- What a monitor reports of a hopper is true: as many coins fell between two life counts, where
+-- that is below 2 ^ 24.
 abbrev pub AreFallen : DeviceSetup → List Entry → ℕ → ℕ → ℕ → Type 0
 AreFallen d past first last count =
     fallen_before d past last < fallen_before d past first + 2 ^ 24 →

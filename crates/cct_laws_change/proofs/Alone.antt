@@ -1,4 +1,4 @@
--- A session that is left alone, played at the desk; and what doesn't leave one alone.
+-- A session that is left alone, played at the operator's desk; and what doesn't leave one alone.
 use Rattle.std.proofs.Common.{◌≡◌, ℕ, true, false, ◌+◌, ◌-◌, ◌*◌, nat_lt, cond, List, [], ◌∷◌, ◌++◌, map, replicate, length, refl, Some, None, All, arith}
 use Prim.Native.String.{String}
 use Rattle.std.specs.Prelude.{codes, ⊤}
@@ -108,7 +108,7 @@ funding =
     (entry.Ended 2 end_of.Posted)
     ∷ []
 
--- rows at the desk go on from a past, and a course goes along
+-- rows at the operator's desk go on from a past, and a course goes along
 abbrev PlaysAtDesk : ℕ → List Entry → Desk → List Row → Type 0
 PlaysAtDesk capacity past desk [] = ⊤
 PlaysAtDesk capacity past desk (row ∷ rows) =

@@ -1,4 +1,5 @@
--- What is kept beside a run at the desk: what each step keeps holds at its end, and each run has it at each of its moments.
+-- What is kept beside a run at the operator's desk: what each step keeps holds at its end, and each
+-- run has it at each of its moments.
 use Rattle.std.proofs.Common.{List, [], ◌∷◌, ◌++◌, ℕ, refl, sym, ◌∙◌, subst, append_assoc, All, ◌≡◌}
 use Rattle.std.proofs.lemmas.List.Elements.{All-head, All-nil, All-push, All-tail}
 use Rattle.cct_model.specs.terms.device.Setup.{Setup}
@@ -101,7 +102,7 @@ along after capacity setup P keeps first steps past desk found sound range told 
     along_from after capacity setup P keeps [] (clear_desk setup) first steps past desk found range told
     (stands_clear capacity setup sound) is
 
--- it goes on at the desk, and adds entries to its past
+-- it goes on at the operator's desk, and adds entries to its past
 pub along_desk : {A : Type 0} (after : Step → List Entry → Desk → A → A) (capacity : ℕ) (setup : Setup) (past : List Entry)
     (desk : Desk) (kept : A) (steps : List Step) (end : List Entry) (last : Desk) (found : A) →
     AlongFrom after capacity setup past desk kept steps end last found → AtDeskFrom capacity setup past desk steps end last

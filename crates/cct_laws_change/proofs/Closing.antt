@@ -197,7 +197,7 @@ module _ (setup : Setup) (past : List Entry) (addr id count : ℕ) where
   brought_closes capacity _ _ some ids (lost_in_put at choice d c since r own at_work is_row) shows = absurd shows
   brought_closes capacity _ _ some ids (lost_in_sale at choice used price since empty selling) shows = absurd shows
 
-  -- so it is of all that a step tells
+  -- so it is of all that a step reports
   pub step_closes : (capacity : ℕ) (news : List Entry) (s : Step) → 1 ≤ addr → Ids setup past →
       Telling capacity setup past s news → ShowsEnd (command.Pay addr id count) addr news → Closes past addr news
   unfolding Shows

@@ -1,4 +1,5 @@
--- What the entries of a step tell of an order, by its id: that it was opened, and how it was closed.
+-- What the entries of a step show of an order, by its id: that it was opened, and how it was
+-- closed.
 use Rattle.std.proofs.Common.{◌≡◌, ℕ, ◌==◌, ◌&&◌, ◌||◌, true, false, cond, List, [], ◌∷◌, ◌++◌, refl, ap, sym, ◌∙◌, subst, Some, inl, inr, append_assoc, eq-eqb, eqb-true}
 use Rattle.std.specs.Prelude.{⊤}
 use Rattle.std.specs.List.{list_any}
@@ -51,7 +52,7 @@ lines_more d (e ∷ news) past =
       ap (λ ls. own d (news ++ past) e ++ ls) before.1 ∙ sym (append_assoc (own d (news ++ past) e) before.0 (lines_of d past)),
     )
 
--- an order was opened for a payment at this address: its lines tell so, and its id is used there
+-- an order was opened for a payment at this address: its lines show so, and its id is used there
 pub record IsOpened (addr : ℕ) (lines : List Line) (rs : List Record) (p : Payment) : Type 0 where
   pub opened : opened_as p.id lines ≡ Some p.count
   pub used : list_any (uses p.id) rs ≡ true

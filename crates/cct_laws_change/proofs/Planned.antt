@@ -501,7 +501,7 @@ both_run capacity setup steps past desk tally sound range tallies =
     (along tally_after capacity setup IsBoth (keeps_planned capacity setup sound) no_tally steps past desk tally sound
     range tallies (both_start setup sound)).1
 
--- ---- what it tells
+-- ---- what it reports
 
 -- a session that was served had a plan
 served_began : (capacity : ℕ) (setup : Setup) (past : List Entry) (t : Tally) (trays : List Tray) (s : Session)

@@ -1,4 +1,4 @@
--- Every run at the desk keeps what holds of its session, so change is paid.
+-- Every run at the operator's desk keeps what holds of its session, so change is paid.
 use Rattle.std.proofs.Common.{ℕ, List, [], ◌∷◌, ◌++◌, subst, Option, All}
 use Rattle.std.specs.Option.{option_map}
 use Rattle.std.proofs.lemmas.List.Elements.{All-cons, All-head, All-nil, All-tail, All-weaker}
@@ -25,7 +25,7 @@ use Rattle.cct_laws_change.proofs.Sessions.{AreSure, Holds, holds_over, holds_st
 use Rattle.cct_laws_change.proofs.Told.{TellsNothing, plain_told, same_told_paid}
 use Rattle.cct_laws_change.proofs.Trays.{AreTrays}
 
--- what tells nothing of a session's end shows it right
+-- what shows nothing of a session's end shows it right
 told_nothing : (setup : Setup) (past : List Entry) (orders : List Payment) (session : Option Session) (e : Entry) →
     TellsNothing e → IsToldRight setup past orders session e
 told_nothing setup past orders session (entry.Served amount) none = absurd none
@@ -88,7 +88,8 @@ reached capacity setup steps past desk orders sound range comes honest =
       holds = at.1 honest;
     }
 
--- at each moment no more fell than the amount, or what the last end told; and each step shows it right
+-- at each moment no more fell than the amount, or what the last end reported; and each step shows
+-- it right
 pub moment_within : EachMoment (λ capacity setup past desk orders. IsWithin setup past orders desk.session)
 moment_within capacity setup steps past desk orders sound range comes honest =
     let at = reached capacity setup steps past desk orders sound range comes honest in

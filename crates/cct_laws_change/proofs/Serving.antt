@@ -1,4 +1,5 @@
--- What a `serve` and a `change` do with a session: what they tell is right, and what holds of it holds after them.
+-- What a `serve` and a `change` do with a session: what they report is right, and what holds of it
+-- holds after them.
 use Rattle.std.proofs.Common.{◌≡◌, ℕ, ◌-◌, ◌≤◌, ◌==◌, Bool, true, false, List, [], ◌∷◌, ◌++◌, refl, sym, subst, Option, Some, None, inl, inr, All, arith}
 use Rattle.std.specs.Prelude.{MatchBool}
 use Rattle.std.proofs.lemmas.Bool.{eqb-true}
@@ -22,7 +23,8 @@ use Rattle.cct_laws_change.specs.Orders.{begun_anew}
 use Rattle.cct_laws_change.proofs.Sessions.{AreSure, Holds, HoldsBy, HoldsDue, IsAsked, Settled, holds_restocked, holds_stays, settled_over, settles}
 use Rattle.cct_laws_change.proofs.Trays.{AreTrays, first_is, restocked_trays}
 
--- what a step tells of a session is right, and what holds of it holds at the desk after it
+-- what a step reports of a session is right, and what holds of it holds at the operator's desk
+-- after it
 pub record GoesRight (setup : Setup) (past : List Entry) (orders : List Payment) (session : Option Session)
     (news : List Entry) (left : List Payment) (desk : Desk) : Type 0 where
   pub told : All (IsToldRight setup past orders session) news
@@ -38,7 +40,7 @@ right_as setup past orders session news is left desk same right =
 pub one_told : (P : Entry → Type 0) (e : Entry) → P e → All P (e ∷ [])
 one_told P e is = All-cons P e [] is (All-nil P)
 
--- a session whose payments are settled tells right that it was served, or that it fell short
+-- a session whose payments are settled reports rightly that it was served, or that it fell short
 pub served_paid : (setup : Setup) (past : List Entry) (orders : List Payment) (s told : Session) → told.amount ≡ s.amount →
     s.rest ≡ 0 → Settled setup past orders s.amount s.rest → IsPaid setup past orders (Some told) s.amount 0
 served_paid setup past orders s told same none is =
@@ -49,7 +51,7 @@ pub short_paid : (setup : Setup) (past : List Entry) (orders : List Payment) (s 
 short_paid setup past orders s told same is =
     let sums = is.sums in (omega (arith, same, sums), omega (arith, sums))
 
--- and from then on its orders are settled at what it told
+-- and from then on its orders are settled at what it reported
 served_holds : (setup : Setup) (past : List Entry) (orders : List Payment) (s : Session) → s.rest ≡ 0 → AreSure setup past →
     AreSure setup (entry.Served s.amount ∷ past) → Settled setup past orders s.amount s.rest →
     Settled setup (entry.Served s.amount ∷ past) orders s.amount 0

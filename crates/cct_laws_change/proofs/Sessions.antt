@@ -141,7 +141,7 @@ HoldsBy setup trays past orders amount rest None = Settled setup past orders amo
 HoldsBy setup trays past orders amount rest (Some due) =
     HoldsDue setup trays past orders amount rest due.payment due.phase
 
--- by what the end of a session told as paid: its orders are settled, and no more falls for them
+-- by what the end of a session reported as paid: its orders are settled, and no more falls for them
 abbrev pub HasPaid : Setup → List Entry → List Payment → Option ℕ → Type 0
 HasPaid setup past orders None = ⊤
 HasPaid setup past orders (Some paid) = Settled setup past orders paid 0
@@ -160,7 +160,7 @@ paid_over setup news past orders None before sure is = tt
 paid_over setup news past orders (Some paid) before sure is =
     settled_over setup news past orders paid 0 before sure is
 
--- of entries that tell no end
+-- of entries that show no end
 paid_same : (setup : Setup) (news past : List Entry) (orders : List Payment) → told_paid (news ++ past) ≡ told_paid past →
     AreSure setup past → AreSure setup (news ++ past) → HasPaid setup past orders (told_paid past) →
     HasPaid setup (news ++ past) orders (told_paid (news ++ past))
@@ -380,7 +380,7 @@ holds_within setup trays past orders None sure is = tt
 holds_within setup trays past orders (Some s) sure is =
     by_within setup trays past orders s.amount s.rest s.due sure is.1
 
--- and after its end, what fell for them is what the end told
+-- and after its end, what fell for them is what the end reported
 
 still_by : (setup : Setup) (past : List Entry) (orders : List Payment) (told : Option ℕ) → HasPaid setup past orders told →
     IfSome told (λ paid. worth_of setup past orders ≡ paid)

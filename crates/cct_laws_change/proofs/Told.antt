@@ -17,14 +17,14 @@ use Rattle.cct_laws_change.specs.Change.{told_paid}
 use Rattle.cct_laws.proofs.jobs.StepBrings.{Comes, takes_coin, leaves_coin, takes_bill, leaves_bill, leaves_alien, drops_coin, drops_none, jams, jams_none, is_reset, AtDevice, came, took, halted, idled, made_exchange, made_put, wire_of, wire_end, record_end, poll_wire, poll_end, IsOfDesk, tells_stock, begins_change, keeps_change, serves_none, serves_later, serves_odd, serves_all, serves_short, Brought, of_device, faulted, refused, began_scan, began_sale, nobody, polled, sold, balanced, of_desk, ended_short, lost_power, lost_in_put, lost_in_sale}
 use Rattle.cct_laws.proofs.jobs.EntriesOfStep.{over_telling, tells}
 
--- a step is none at the desk
+-- a step is none of those at the operator's desk
 abbrev pub IsNoDesk : Step → Type 0
 IsNoDesk (step.Stock addr count) = ⊥
 IsNoDesk (step.Change first amount) = ⊥
 IsNoDesk step.Serve = ⊥
 IsNoDesk s = ⊤
 
--- an entry tells nothing of a session's begin or end
+-- an entry shows nothing of a session's begin or end
 abbrev pub TellsNothing : Entry → Type 0
 TellsNothing (entry.ChangeOk first amount) = ⊥
 TellsNothing (entry.Served amount) = ⊥

@@ -158,7 +158,7 @@ turn_forged d past es addr (is_over jobs ends orders) = is_over jobs ends orders
 turn_forged d past es addr (has_put c since r at_work is_row only orders behind) =
     has_put c since r at_work is_row only orders behind
 
--- so it is over all that a step tells
+-- so it is over all that a step reports
 pub turn_told : (capacity : ℕ) (setup : Setup) (d : DeviceSetup) (past news : List Entry) (s : Step) →
     IsSoundSetup setup → IsOf setup d → Ids setup past → Telling capacity setup past s news → Turn d past news
 turn_told capacity setup d past news s sound own ids told =

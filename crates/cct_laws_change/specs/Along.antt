@@ -1,4 +1,5 @@
--- What is kept beside a run at the desk: something that changes by each step and its entries.
+-- What is kept beside a run at the operator's desk: something that changes by each step and its
+-- entries.
 use Rattle.std.specs.Prelude.{◌≡◌, ℕ, List, [], ◌∷◌, ◌++◌}
 use Rattle.cct_model.specs.terms.device.Setup.{Setup}
 use Rattle.cct_model.specs.lines.command.Step.{Step}

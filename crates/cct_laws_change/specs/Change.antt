@@ -1,5 +1,5 @@
 -- The law of change: the coins that fell for the orders of a session are worth what the session
--- tells.
+-- reports.
 use Rattle.std.specs.Prelude.{◌≡◌, ℕ, ◌+◌, ◌≤◌, List, [], ◌∷◌, ◌++◌, Option, Some, None, ⊤}
 use Rattle.std.specs.List.{All}
 use Rattle.std.specs.Option.{IfSome}
@@ -52,7 +52,7 @@ IsPaid setup past orders None paid rest = ⊥
 IsPaid setup past orders (Some s) paid rest =
     (paid + rest ≡ s.amount) × (worth_of setup past orders ≡ paid)
 
--- What an entry tells of the session that ran before its step: that it was served, all of its
+-- What an entry shows of the session that ran before its step: that it was served, all of its
 -- amount was paid; that it fell short, as much of it as is reported, and the rest wasn't. That the
 -- life counts don't fit its order is never reported.
 abbrev pub IsToldRight : Setup → List Entry → List Payment → Option Session → Entry → Type 0
@@ -63,7 +63,7 @@ IsToldRight setup past orders session (entry.Short paid rest) =
 IsToldRight setup past orders session (entry.ServeOdd id) = ⊥
 IsToldRight setup past orders session e = ⊤
 
--- What the end of a session told last as paid, where no session began since: a past shows it,
+-- What the end of a session last reported as paid, where no session began since: a past shows it,
 -- newest entry first.
 abbrev pub told_paid : List Entry → Option ℕ
 told_paid [] = None
@@ -73,12 +73,12 @@ told_paid (entry.ChangeOk first amount ∷ past) = None
 told_paid (e ∷ past) = told_paid past
 
 -- From the end of a session until the next one begins, what fell for its orders stays worth what
--- the end told.
+-- the end reported.
 abbrev pub IsStillPaid : Setup → List Entry → List Payment → Type 0
 IsStillPaid setup past orders = IfSome (told_paid past) (λ paid. worth_of setup past orders ≡ paid)
 
 -- A run goes on from a moment by these steps, and ends as these; and all entries of the step that
--- comes next tell the session right.
+-- comes next show the session right.
 abbrev pub GoesOnRight : ℕ → Setup → List Entry → Desk → List Payment → List Step → List Entry →
     Desk → Type 0
 GoesOnRight capacity setup past desk orders [] end last = (end ≡ past) × (last ≡ desk)
@@ -88,7 +88,7 @@ GoesOnRight capacity setup past desk orders (s ∷ steps) end last =
     × All (IsToldRight setup past orders desk.session) news
 
 -- The moment of a run after these steps and before those: while a session runs, what fell for its
--- orders is worth at most its amount; after it has ended, what its end told; and the next step
+-- orders is worth at most its amount; after it has ended, what its end reported; and the next step
 -- shows it right.
 pub record MomentIsRight (capacity : ℕ) (setup : Setup) (played steps : List Step)
     (end : List Entry) (last : Desk) :
@@ -109,8 +109,9 @@ pub record ChangeIsPaid (capacity : ℕ) (setup : Setup) (steps : List Step) (tr
   pub each : (played rest : List Step) → steps ≡ played ++ rest →
       MomentIsRight capacity setup played rest (onto [] transcript) last
 
--- A fact of each moment of each run at the desk of a sound setup, over an honest wire: of its past,
--- newest entry first, of the desk, and of the orders of its session. The steps are in range.
+-- A fact of each moment of each run at the operator's desk, of a sound setup, over an honest wire:
+-- of its past, newest entry first, of the desk, and of the orders of its session. The steps are in
+-- range.
 abbrev pub EachMoment : (ℕ → Setup → List Entry → Desk → List Payment → Type 0) → Type 0
 EachMoment P =
     (capacity : ℕ) (setup : Setup) (steps : List Step) (past : List Entry) (desk : Desk)

@@ -1,4 +1,4 @@
--- What fell for an order, by its id: the lines of a hopper tell it, newest first.
+-- What fell for an order, by its id: the lines of a hopper show it, newest first.
 use Rattle.std.specs.Prelude.{◌≡◌, ◌≢◌, ℕ, suc, ◌≤◌, ◌==◌, Bool, false, List, [], ◌∷◌}
 use Rattle.std.specs.Prelude.{if◌then◌else◌, Option, Some, None, ⊤}
 use Rattle.cct_model.specs.lines.record.Record.{Record}

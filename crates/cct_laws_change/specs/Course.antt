@@ -40,7 +40,7 @@ pub record Course : Type 0 where
 abbrev pub no_course : Course
 no_course = record { tally = no_tally; told = []; before = []; others = [] }
 
--- The commands that these entries tell as taken.
+-- The commands that these entries report as taken.
 abbrev pub commands_in : List Entry → List Command
 commands_in [] = []
 commands_in (entry.Taken c ∷ news) = c ∷ commands_in news
@@ -68,8 +68,8 @@ course_after s news desk c = record {
   others = others_after s desk.session news c.others;
 }
 
--- A run of these steps at the desk comes to this past, newest entry first, to this desk, and to
--- this course.
+-- A run of these steps at the operator's desk comes to this past, newest entry first, to this desk,
+-- and to this course.
 abbrev pub CoursesTo : ℕ → Setup → List Step → List Entry → Desk → Course → Type 0
 CoursesTo capacity setup steps past desk course =
     AlongFrom course_after capacity setup [] (clear_desk setup) no_course steps past desk course
@@ -105,8 +105,8 @@ pub record AreLeftAlone (capacity : ℕ) (setup : Setup) (c : Course) (payments 
       length (records c.before) + held setup c.before + needs_in setup c.others + 2 * payments
       ≤ capacity
 
--- A fact of each moment of each run at the desk of a sound setup, over any wire: of its past, of
--- the desk, and of its course. The steps are in range.
+-- A fact of each moment of each run at the operator's desk, of a sound setup, over any wire: of its
+-- past, of the desk, and of its course. The steps are in range.
 abbrev pub EachCourse : (ℕ → Setup → List Entry → Desk → Course → Type 0) → Type 0
 EachCourse P =
     (capacity : ℕ) (setup : Setup) (steps : List Step) (past : List Entry) (desk : Desk)

@@ -43,8 +43,8 @@ orders_after (step.Change first amount) news desk orders = begun_anew desk.sessi
 orders_after step.Serve news desk orders = orders
 orders_after s news desk orders = opened_of news desk.session ++ orders
 
--- A run of these steps at the desk comes to this past, newest entry first, to this desk, and to
--- these orders of its session.
+-- A run of these steps at the operator's desk comes to this past, newest entry first, to this desk,
+-- and to these orders of its session.
 abbrev pub ComesTo : ℕ → Setup → List Step → List Entry → Desk → List Payment → Type 0
 ComesTo capacity setup steps past desk orders =
     AlongFrom orders_after capacity setup [] (clear_desk setup) [] steps past desk orders

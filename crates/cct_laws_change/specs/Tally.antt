@@ -21,8 +21,8 @@ use Rattle.cct_model.specs.Setup.{IsSoundSetup}
 use Rattle.cct_laws_change.specs.Along.{AlongFrom}
 
 -- Of the session that began last: its first id, its amount, and the trays as it began; how many
--- later steps told a stock above 0, and how many payments it made. It goes smoothly as long as no
--- stock is reported, and each payment that is settled was closed with all its coins paid.
+-- later steps reported a stock above 0, and how many payments it made. It goes smoothly as long as
+-- no stock is reported, and each payment that is settled was closed with all its coins paid.
 pub record Tally : Type 0 where
   pub first : ℕ
   pub amount : ℕ
@@ -97,8 +97,8 @@ tally_after step.Serve news desk t = record {
 }
 tally_after s news desk t = t
 
--- A run of these steps at the desk comes to this past, newest entry first, to this desk, and to
--- this tally.
+-- A run of these steps at the operator's desk comes to this past, newest entry first, to this desk,
+-- and to this tally.
 abbrev pub TalliesTo : ℕ → Setup → List Step → List Entry → Desk → Tally → Type 0
 TalliesTo capacity setup steps past desk tally =
     AlongFrom tally_after capacity setup [] (clear_desk setup) no_tally steps past desk tally
@@ -109,7 +109,7 @@ unsettled None = 0
 unsettled (Some due) = 1
 
 -- The most payments that a session makes: as many as its amount has units, one for each tray that
--- wasn't empty as it began, and one for each later step that told a stock above 0.
+-- wasn't empty as it began, and one for each later step that reported a stock above 0.
 abbrev pub most_made : Tally → ℕ
 most_made t = t.amount + filled_in t.trays + t.refills
 
@@ -129,8 +129,8 @@ HasPlan trays amount = (counts : List ℕ) × IsPlan trays amount counts
 abbrev pub IsSmooth : Desk → Tally → Type 0
 IsSmooth desk t = (t.smooth && is_whole_in desk.session) ≡ true
 
--- A fact of each moment of each run at the desk of a sound setup, over any wire: of its past, of
--- the desk, and of its tally. The steps are in range.
+-- A fact of each moment of each run at the operator's desk, of a sound setup, over any wire: of its
+-- past, of the desk, and of its tally. The steps are in range.
 abbrev pub EachTally : (ℕ → Setup → List Entry → Desk → Tally → Type 0) → Type 0
 EachTally P =
     (capacity : ℕ) (setup : Setup) (steps : List Step) (past : List Entry) (desk : Desk)

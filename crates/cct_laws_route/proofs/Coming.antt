@@ -15,7 +15,7 @@ use Rattle.cct_laws.specs.Law.{EachEntry, IsOf}
 use Rattle.cct_laws.proofs.jobs.StepBrings.{AtDevice, Brought, Comes, IsOfDesk, balanced, began_sale, began_scan, begins_change, came, ended_short, faulted, halted, idled, keeps_change, lost_in_put, lost_in_sale, lost_power, made_exchange, made_put, nobody, of_desk, of_device, poll_end, polled, record_end, refused, serves_all, serves_later, serves_none, serves_odd, serves_short, sold, tells_stock, took, wire_end}
 use Rattle.cct_laws.proofs.jobs.EntriesOfStep.{each_brought}
 
--- an entry tells of no coin and no bill
+-- an entry shows no coin and no bill
 abbrev pub TellsNoCoin : Entry → Type 0
 TellsNoCoin (entry.Accepted addr c) = ⊥
 TellsNoCoin (entry.Held addr place) = ⊥

@@ -29,7 +29,7 @@ IsHeldAt d past (entry.Held addr place) = addr ≡ d.addr → holds (met d past)
 IsHeldAt d past (entry.Inhibited addr place) = addr ≡ d.addr → holds (met d past) place ≡ false
 IsHeldAt d past e = ⊤
 
--- so those told are those held
+-- so those reported are those held
 met_if : (here : Bool) (m : Met) (past : List Met) (told : List ℕ) → (here ≡ true → told ≡ held_bills (m ∷ past)) →
     (here ≡ false → told ≡ held_bills past) → told ≡ held_bills (cond here (m ∷ []) [] ++ past)
 met_if true m past told is other = is refl

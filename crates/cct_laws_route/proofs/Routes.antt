@@ -52,7 +52,7 @@ use Rattle.cct_laws.proofs.steps.EachKeeps.{IsRanged, ranged_step, works_at}
 use Rattle.cct_laws_live.proofs.InTurn.{FitsForm, fits_by}
 use Rattle.cct_laws_route.specs.Routes.{IsOfRoute, IsToldAfter, RouteEndsAt, RoutesBill, end_of_route, lines_by}
 
--- an end tells of a `route`
+-- an end reports a `route`
 abbrev IsRouteEnd : End → Type 0
 IsRouteEnd Routed = ⊤
 IsRouteEnd RouteUnsure = ⊤

@@ -1,4 +1,4 @@
--- What a transcript tells of the bills that a bill acceptor holds.
+-- What a transcript shows of the bills that a bill acceptor holds.
 use Rattle.std.specs.Prelude.{ℕ, ◌==◌, List, [], ◌∷◌, if◌then◌else◌}
 use Rattle.cct_model.specs.terms.device.DeviceSetup.{DeviceSetup}
 use Rattle.cct_model.specs.lines.entry.Entry.{Entry}

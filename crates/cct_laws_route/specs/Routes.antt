@@ -1,4 +1,4 @@
--- What the end of a `route` tells of the bill that was held.
+-- What the end of a `route` reports of the bill that was held.
 use Rattle.std.specs.Prelude.{◌≡◌, ℕ, ◌≤◌, ◌==◌, List, [], ◌∷◌, if◌then◌else◌, Option, Some, None}
 use Rattle.std.specs.Prelude.{⊤}
 use Rattle.cct_model.specs.terms.device.DeviceSetup.{DeviceSetup}
@@ -57,7 +57,7 @@ IsUnsureAfter d (entry.Wire addr sent piece ∷ past) =
     (of : IsOfRoute d past addr sent) × (pending past ≡ Clear → bill_held (met d past) ≡ None)
 IsUnsureAfter d past = ⊥
 
--- So it is of each end of a device's job that tells of a `route`.
+-- So it is of each end of a device's job that reports a `route`.
 abbrev pub IsToldAfter : DeviceSetup → List Entry → End → Type 0
 IsToldAfter d past Routed = IsRoutedAfter d past
 IsToldAfter d past RouteUnsure = IsUnsureAfter d past

@@ -35,7 +35,7 @@ till = record {
       ∷ record { addr = 5; kind = Simple; serial = 5; texts = texts; named = false; body = Hopper 0 50 } ∷ [];
 }
 
--- each of these rows has the entries of its step at the desk, after the rows before it
+-- each of these rows has the entries of its step at the operator's desk, after the rows before it
 abbrev PlaysAtDesk : List Entry → Desk → List Row → Type 0
 PlaysAtDesk past desk [] = ⊤
 PlaysAtDesk past desk (row ∷ rows) =
@@ -124,7 +124,7 @@ jammed_known : desk_past (clear_desk till) (begins ++ pays_two ++ jams_one)
     ≡ record { session = None; trays = trays 0 2 }
 jammed_known = refl
 
--- the beginning is played at the desk
+-- the beginning is played at the operator's desk
 begins_played : PlaysAtDesk funded (clear_desk till) begins
 begins_played = search
 

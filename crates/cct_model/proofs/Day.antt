@@ -274,6 +274,6 @@ unfolding message spelling data_of request_of requests_with form_of reply_data r
     life_between close crc
 day_plays = (search, (search, (search, (search, (search, (search, (search, tt)))))))
 
--- its records are those of which the ledger tells
+-- its records are those that the ledger reports
 day_records : records after_closing ≡ day
 day_records = refl

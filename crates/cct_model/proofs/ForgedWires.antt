@@ -1,4 +1,4 @@
--- Runs in which an exchange was forged, and runs with other faults of the wire, which tell nothing.
+-- Runs in which an exchange was forged, and runs with other faults of the wire, which show nothing.
 use Rattle.std.proofs.Common.{ℕ, List, [], ◌∷◌}
 use Rattle.std.specs.Prelude.{codes}
 use Rattle.cct_model.specs.lines.command.Step.TheVariants as step

@@ -1,5 +1,5 @@
--- How what the records of an address tell changes by one record more, so its open order; and what coins of one hopper are
--- worth together.
+-- How what the records of an address show changes by one record more, so its open order; and what
+-- coins of one hopper are worth together.
 use Rattle.std.proofs.Common.{◌≡◌, ◌≢◌, ℕ, ◌+◌, ◌==◌, Bool, true, false, cond, List, ◌∷◌, refl, ap, sym, ◌∙◌, eq-eqb, add-mul}
 use Rattle.std.proofs.lemmas.Bool.{ne_eqb}
 use Rattle.cct_model.specs.terms.device.Setup.{Setup}
@@ -9,7 +9,7 @@ use Rattle.cct_model.specs.Order.{order_by}
 use Rattle.cct_model.specs.Records.{owner_in, records_at, order_of, order_in}
 use Rattle.cct_model.specs.Money.{hopper_value, coins_of}
 
--- what the records of any address tell one by one, after one record more
+-- what the records of any address show one by one, after one record more
 pub told_next : {A : Type 0} (told : List Record → A) (once : Record → A → A) →
     ((r : Record) (rs : List Record) → told (r ∷ rs) ≡ once r (told rs)) → (addr : ℕ) (r : Record)
     (before : List Record) → told (records_at addr (r ∷ before))

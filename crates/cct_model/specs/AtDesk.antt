@@ -9,7 +9,8 @@ use Rattle.cct_model.specs.Change.{Desk, Serves, change_entry, clear_desk, desk_
 use Rattle.cct_model.specs.Legal.{Entries}
 use Rattle.cct_model.specs.Transcript.{onto}
 
--- The entries of a step after all that came before, newest first, with what is known at the desk.
+-- The entries of a step after all that came before, newest first, with what is known at the
+-- operator's desk.
 abbrev pub EntriesAtDesk : ℕ → Setup → List Entry → Desk → Step → List Entry → Type 0
 EntriesAtDesk capacity setup past desk (step.Change first amount) news =
     news ≡ change_entry first amount desk.session ∷ []

@@ -106,7 +106,7 @@ reserved_held setup c = owed_by setup c.orders + c.odd_value
 abbrev pub available_held : Setup → Carry → ℕ → ℕ
 available_held setup c beside = c.value - (reserved_held setup c + beside + c.paid_value + c.sold)
 
--- What a carry tells before one more record.
+-- What a carry shows before one more record.
 abbrev pub known_by : Setup → Carry → Known
 known_by setup c = record {
   epoch_at = λ addr. epoch_held addr c;

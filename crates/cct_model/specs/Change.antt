@@ -174,8 +174,8 @@ GoesOn capacity setup past trays s news =
     (PaysOn capacity setup past trays s news)
 
 -- The entries of a `serve` while a session has a payment to settle, by what became of that: it
--- waits while the job is at work or the order is open; it ends where the order is odd; else it
--- settles it and goes on.
+-- waits while the job is at work or the order is open; it ends where the life counts don't fit the
+-- order; else it settles it and goes on.
 abbrev pub Settles : ℕ → Setup → List Entry → List Tray → Session → Due → Phase → List Entry →
     Type 0
 Settles capacity setup past trays s due Begun news = news ≡ entry.ServeWait due.payment.addr ∷ []

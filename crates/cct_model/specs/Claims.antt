@@ -32,9 +32,9 @@ abbrev pub looking : List Line → List Line
 looking [] = []
 looking (line ∷ past) = behind (mask_line line) past (looking past)
 
--- Up to which coins a record that is an item tells, newest first. A reading tells up to those that
--- were accepted before the credits were read; a break, before the mask was read; the begin and the
--- end of an epoch tell all that were accepted.
+-- Up to which coins a record that is an item reports, newest first. A reading reports up to those
+-- that were accepted before the credits were read; a break, before the mask was read; the begin and
+-- the end of an epoch report all that were accepted.
 abbrev pub known_by : Record → List Line → List Coin
 known_by (record_of.Reading addr counter lost accepts posted) past = coins (reading past)
 known_by (record_of.Broken addr seen counter lost accepts posted) past = coins (looking past)
@@ -45,24 +45,24 @@ abbrev pub told_by : Record → List Line → Option (List Coin)
 told_by r past = if is_item r then Some (known_by r past) else None
 
 -- An item is a record of an acceptor, or a clean end, which shows as a reading does. Up to which
--- coins it tells.
+-- coins it reports.
 abbrev pub told : List Line → Line → Option (List Coin)
 told past (put entry) = told_by entry past
 told past (ended Clean) = Some (coins (reading past))
 told past line = None
 
--- How many coins an item tells, or as many as before.
+-- How many coins an item reports, or as many as before.
 abbrev pub count_or : ℕ → Option (List Coin) → ℕ
 count_or before None = before
 count_or before (Some told) = length told
 
--- The mark is the number of coins up to which the last item tells, 0 before any.
+-- The mark is the number of coins up to which the last item reports, 0 before any.
 abbrev pub mark : List Line → ℕ
 mark [] = 0
 mark (line ∷ past) = count_or (mark past) (told past line)
 
--- The part of an item that tells up to these coins: those of them after the mark of the item before
--- it, newest first.
+-- The part of an item that reports up to these coins: those of them after the mark of the item
+-- before it, newest first.
 abbrev pub part : List Line → List Coin → List Coin
 part past known = take (length known - mark past) known
 
@@ -97,7 +97,7 @@ OrderAt past (put entry) = GoesOn past (told_by entry past) × PostsOf past entr
 OrderAt past (ended Clean) = mark past ≤ length (coins (reading past))
 OrderAt past line = ⊤
 
--- The coins of the part of a reading or of a break are as many as it posts and as it tells to be
+-- The coins of the part of a reading or of a break are as many as it posts and as it reports as
 -- lost, and no coin is between the end of an epoch and the item before it.
 abbrev pub UnpostedOf : List Line → Record → Type 0
 UnpostedOf past (record_of.Reading addr counter lost accepts posted) =
@@ -107,20 +107,20 @@ UnpostedOf past (record_of.Broken addr seen counter lost accepts posted) =
 UnpostedOf past (record_of.EpochEnd addr) = part past (coins past) ≡ []
 UnpostedOf past r = ⊤
 
--- Each coin of an item's part is posted or told to be lost, and a clean end has no coin in its
+-- Each coin of an item's part is posted or reported as lost, and a clean end has no coin in its
 -- part.
 abbrev pub CoverAt : List Line → Line → Type 0
 CoverAt past (put entry) = UnpostedOf past entry
 CoverAt past (ended Clean) = part past (coins (reading past)) ≡ []
 CoverAt past line = ⊤
 
--- How many coins the records of these lines post and tell to be lost.
+-- How many coins the records of these lines post and report as lost.
 abbrev pub tally : List Line → ℕ
 tally [] = 0
 tally (put entry ∷ past) = (coins_lost entry + coins_posted entry) + tally past
 tally (line ∷ past) = tally past
 
--- The coins up to the mark are as many as all that were posted and all that were told to be lost.
+-- The coins up to the mark are as many as all that were posted and all that were reported as lost.
 abbrev pub Tallies : List Line → Type 0
 Tallies lines = mark lines ≡ tally lines
 
@@ -158,7 +158,7 @@ AllPast P (line ∷ past) = P past line × AllPast P past
 abbrev pub InOrder : List Line → Type 0
 InOrder lines = AllPast OrderAt lines
 
--- No coin that came before a completed reading is lost in silence: each is posted or told to be
+-- No coin that came before a completed reading is lost in silence: each is posted or reported as
 -- lost.
 abbrev pub Covers : List Line → Type 0
 Covers lines = AllPast CoverAt lines

@@ -70,7 +70,7 @@ follows_known setup k r =
         && has_values (device_at setup.devices addr) mask
     by_epoch (move.of_address addr) other more = is_running (k.epoch_at addr)
 
--- What records tell before another one.
+-- What records show before another one.
 abbrev pub known_in : Setup → List Record → Known
 known_in setup before = record {
   epoch_at = λ addr. epoch_in addr before;

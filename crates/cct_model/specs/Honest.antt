@@ -68,23 +68,23 @@ was_forged (e ∷ past) = was_forged past
 abbrev pub forged_line : List Entry → ℕ → List ℕ → List Entry
 forged_line past addr sent = if is_honest (pending past) sent then [] else entry.Forged addr ∷ []
 
--- What the entries of a step, newest first, have told after them: that their exchange was forged,
--- where there is one that was.
+-- What is reported after the entries of a step, newest first: that their exchange was forged, where
+-- there is one that was.
 abbrev pub forged_after : List Entry → List Entry → List Entry
 forged_after past [] = []
 forged_after past (entry.Wire addr sent piece ∷ earlier) = forged_line (earlier ++ past) addr sent
 forged_after past (e ∷ earlier) = forged_after past earlier
 
--- The entries of a step, newest first, without the one that tells of a forged exchange.
+-- The entries of a step, newest first, without the one that reports a forged exchange.
 abbrev pub without_forged : List Entry → List Entry
 without_forged (entry.Forged addr ∷ news) = news
 without_forged news = news
 
--- An entry tells of no forged exchange.
+-- An entry reports no forged exchange.
 abbrev pub IsUnforged : Entry → Type 0
 IsUnforged (entry.Forged addr) = ⊥
 IsUnforged e = ⊤
 
--- No entry of a transcript tells of a forged exchange.
+-- No entry of a transcript reports a forged exchange.
 abbrev pub IsAllUnforged : List Entry → Type 0
 IsAllUnforged transcript = All IsUnforged transcript

@@ -96,7 +96,7 @@ credits_reply got = None
 abbrev pub settled : Pair → Pair
 settled pair = if pair.b == 1 then record { a = 0; b = 1 } else pair
 
--- The events that a bill acceptor told, as they are judged.
+-- The events that a bill acceptor reported, as they are judged.
 abbrev pub settled_events : Credits → Credits
 settled_events c = record { counter = c.counter; pairs = map settled c.pairs }
 
@@ -227,7 +227,7 @@ path_set place path = if place == 0 then SetDefault path else SetPath place path
 abbrev pub path_read : ℕ → Request
 path_read place = if place == 0 then GetDefault else GetPath place
 
--- What the lines of a job tell beside what they judge: whether its payout is to be stopped, the
+-- What the lines of a job show beside what they judge: whether its payout is to be stopped, the
 -- life count that was last read, the order that is open, and the accept counter that was last read.
 pub record Noted : Type 0 where
   pub is_marked : Bool
@@ -264,7 +264,7 @@ judged_in c since state =
     judged_by (address_of c) state (credits_read since) (mask_read since) (accepts_before since)
     (accepts_read since)
 
--- What the lines of a job tell beside that, and the open order.
+-- What the lines of a job show beside that, and the open order.
 abbrev pub noted_in : List Line → Option OpenOrder → Noted
 noted_in since owed =
     record {

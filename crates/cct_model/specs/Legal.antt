@@ -227,9 +227,9 @@ abbrev pub ChangeEntries : ℕ → ℕ → List Entry → Type 0
 ChangeEntries first amount news =
     (news ≡ entry.ChangeOk first amount ∷ []) ⊎ (news ≡ entry.ChangeNo ∷ [])
 
--- The entries of a `serve`, newest first, whatever is known at the desk: no session runs, one
--- waits, or one ends; or a payment is given to the host, which takes it, or refuses it, and then
--- the session ends short.
+-- The entries of a `serve`, newest first, whatever is known at the operator's desk: no session
+-- runs, one waits, or one ends; or a payment is given to the host, which takes it, or refuses it,
+-- and then the session ends short.
 pub data ServeEntries (capacity : ℕ) (setup : Setup) (past : List Entry) : List Entry → Type 0 where
   is_idle : ServeEntries capacity setup past (entry.ServeIdle ∷ [])
   waits : (addr : ℕ) → ServeEntries capacity setup past (entry.ServeWait addr ∷ [])

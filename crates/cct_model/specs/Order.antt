@@ -1,4 +1,4 @@
--- The open order of a hopper, read off the lines of its address; what a payment's lines tell, and
+-- The open order of a hopper, read off the lines of its address; what a payment's lines show, and
 -- how an order is closed.
 use Rattle.std.specs.Prelude.{ℕ, ◌+◌, ◌-◌, ◌%◌, ◌^◌, nat_le, Bool, true, false, List, [], ◌∷◌}
 use Rattle.std.specs.Prelude.{if◌then◌else◌, Option, Some, None}
@@ -46,7 +46,7 @@ abbrev pub life_read : List Line → Option ℕ
 life_read [] = None
 life_read (line ∷ past) = option_or (life_line line) (life_read past)
 
--- The hopper told how many coins it stopped: an answered header 172.
+-- The hopper answered how many coins it stopped: an answered header 172.
 abbrev pub is_stopped : Option Request → Option Reply → Bool
 is_stopped (Some StopNow) (Some got) = true
 is_stopped asked got = false

@@ -9,7 +9,7 @@ use Rattle.cct_model.specs.lines.record.Record.TheVariants as record_of
 use Rattle.cct_model.specs.declared.judging.Judged.{Judged}
 use Rattle.cct_model.specs.declared.judging.Judged.TheVariants.{Nothing, Moved, Reading, Broken}
 
--- How many events came between two event counters, as far as they tell: counters go from 0 to 1,
+-- How many events came between two event counters, as far as they show: counters go from 0 to 1,
 -- and from 255 to 1.
 unfoldable pub distance : ℕ → ℕ → ℕ
 distance old new = if old == 0 then new else if new == 0 then 0 else (new + 255 - old) % 255

@@ -1,4 +1,4 @@
--- What the records of a journal alone tell, newest first: whose each is, the epoch and the open
+-- What the records of a journal alone show, newest first: whose each is, the epoch and the open
 -- order of each device, and which ids were used.
 use Rattle.std.specs.Prelude.{ℕ, max, ◌==◌, Bool, true, false, List, [], ◌∷◌, if◌then◌else◌, Option}
 use Rattle.std.specs.Prelude.{Some, None}
@@ -54,7 +54,7 @@ records_at addr [] = []
 records_at addr (r ∷ before) =
     if owner_in before r == addr then r ∷ records_at addr before else records_at addr before
 
--- The epoch that the records of an address tell.
+-- The epoch that the records of an address show.
 abbrev pub epoch_of : List Record → EpochState
 epoch_of [] = Idle
 epoch_of (r ∷ before) = epoch_by r (epoch_of before)
@@ -63,7 +63,7 @@ epoch_of (r ∷ before) = epoch_by r (epoch_of before)
 abbrev pub epoch_in : ℕ → List Record → EpochState
 epoch_in addr before = epoch_of (records_at addr before)
 
--- The open order that the records of an address tell.
+-- The open order that the records of an address show.
 abbrev pub order_of : List Record → Option OpenOrder
 order_of [] = None
 order_of (r ∷ before) = order_by r (order_of before)

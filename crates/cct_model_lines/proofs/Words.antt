@@ -138,7 +138,7 @@ still_words words n word are fits = record {
   fit = λ i. set_fits words n word i fits are.fit;
 }
 
--- and they tell all addresses
+-- and they hold all addresses
 pub still_told : (words : List ℕ) (n word : ℕ) → AreWords words → length (set_in (set words n word)).members ≡ 256
 still_told words n word are = all_told (set words n word) ∙ omega (arith, length-set words n word, are.four)
 

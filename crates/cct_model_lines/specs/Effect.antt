@@ -1,5 +1,5 @@
 -- What a record does to the books: whose it is, what becomes of the epoch and of the open order
--- there, the coins that it posts and tells to be lost, and what it sells.
+-- there, the coins that it posts and reports as lost, and what it sells.
 use Rattle.std.specs.Prelude.{ℕ, List, [], Option, Some, None}
 use Rattle.cct_model_lines.specs.terms.coin.Coin.{Coin}
 use Rattle.cct_model_lines.specs.terms.wire.TheConstants.{HOST}

@@ -13,7 +13,7 @@ abbrev pub bits_of : ℕ → ℕ → List Bool
 bits_of zero number = []
 bits_of (suc count) number = (number % 2 == 1) ∷ bits_of count (number / 2)
 
--- The set that words keep: each tells 64 addresses.
+-- The set that words keep: each holds 64 addresses.
 unfoldable pub set_in : List ℕ → Members
 set_in words = record { members = flat_map (bits_of 64) words }
 

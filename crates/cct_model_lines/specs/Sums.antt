@@ -22,7 +22,7 @@ posts_of r = (effect r).posts
 abbrev pub coins_posted : Record → ℕ
 coins_posted r = length (posts_of r)
 
--- How many coins a record tells to be lost.
+-- How many coins a record reports as lost.
 abbrev pub coins_lost : Record → ℕ
 coins_lost r = (effect r).lost
 
@@ -34,7 +34,7 @@ orders_closed r = closed_by (effect r).order
     closed_by (move.fitly_closed id paid unpaid) = 1
     closed_by other = 0
 
--- How many coins of its order a record tells to be paid.
+-- How many coins of its order a record reports as paid.
 abbrev pub coins_paid : Record → ℕ
 coins_paid r = paid_by (effect r).order
   where
@@ -42,7 +42,7 @@ coins_paid r = paid_by (effect r).order
     paid_by (move.fitly_closed id paid unpaid) = paid
     paid_by other = 0
 
--- How many coins of its order a record tells not to be paid.
+-- How many coins of its order a record reports as unpaid.
 abbrev pub coins_unpaid : Record → ℕ
 coins_unpaid r = unpaid_by (effect r).order
   where
@@ -50,7 +50,7 @@ coins_unpaid r = unpaid_by (effect r).order
     unpaid_by (move.fitly_closed id paid unpaid) = unpaid
     unpaid_by other = 0
 
--- The price of what a record tells to be sold.
+-- The price of what a record reports as sold.
 abbrev pub price_sold : Record → ℕ
 price_sold r = price_of (effect r).sale
   where

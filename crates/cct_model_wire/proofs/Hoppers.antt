@@ -233,8 +233,8 @@ taken_exactly own past count on rest some =
     let empty : (count == 0) ≡ false = ne_eqb count 0 some in
     rw (on, none, same, empty) refl
 
--- all that a hopper's replies tell of its past: whether it may pay, how many payouts it took, what is read of the last
--- one, whether its test register was read, and how many coins it ever dropped
+-- all that a hopper's replies show of its past: whether it may pay, how many payouts it took, what
+-- is read of the last one, whether its test register was read, and how many coins it ever dropped
 pub record State : Type 0 where
   pub on : Bool
   pub events : ℕ

@@ -153,7 +153,7 @@ last_paid own past = paid (payout own past)
 abbrev pub last_unpaid : ℕ → List Met → ℕ
 last_unpaid own past = unpaid (payout own past)
 
--- Whether a jam ended the last payout, which the timeout bit of the test register tells.
+-- Whether a jam ended the last payout, which the timeout bit of the test register shows.
 abbrev pub has_timeout : ℕ → List Met → Bool
 has_timeout own past = jammed (payout own past)
 

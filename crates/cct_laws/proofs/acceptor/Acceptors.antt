@@ -378,7 +378,7 @@ unended d past lines (Some end) other keeps = record {
   state = keeps.sound.state;
 }
 
--- a record after a power cut says what it would have told before it
+-- a record after a power cut says what it would have said before it
 sound_kept : (d : DeviceSetup) (past : List Met) (lines : List Line) (r : Record) → Sound d past (put r ∷ lines) →
     Sound d past (put r ∷ restarted ∷ lines)
 sound_kept d past lines (record_of.Epoch addr mask accepts) sound = record {

@@ -1,5 +1,5 @@
--- What holds of a device that takes money beside the coins that its lines tell, and what moves keep it. A bill is a coin
--- once it is stacked; one that is held is none.
+-- What holds of a device that takes money beside the coins that its lines show, and what moves keep
+-- it. A bill is a coin once it is stacked; one that is held is none.
 use Rattle.std.proofs.Common.{◌≡◌, ◌≢◌, ℕ, suc, ◌+◌, ◌≤◌, ◌⊎◌, inl, inr, ◌&&◌, Bool, true, false, List, [], ◌∷◌, ◌++◌, length, refl, ap, sym, ◌∙◌, subst, arith, ne_eqb}
 use Rattle.std.specs.Prelude.{◌%◌, ◌^◌, Option, Some, None, ⊤}
 use Rattle.std.proofs.lemmas.Bool.Decides.{nat_tests}
@@ -19,8 +19,9 @@ use Rattle.cct_model.specs.Claims.{coins}
 use Rattle.cct_laws.specs.Takers.{events_of, accepted_of, held_of}
 use Rattle.cct_laws.proofs.wire.Replies.{start_of}
 
--- a device's events and settings, the number at which its accept counter started and that of the coins that it ever
--- accepted, and the bill that it holds, beside the coins that the lines of its address tell
+-- a device's events and settings, the number at which its accept counter started and that of the
+-- coins that it ever accepted, and the bill that it holds, beside the coins that the lines of its
+-- address show
 pub record World : Type 0 where
   pub events : List Pair
   pub settings : List Setting
@@ -62,7 +63,7 @@ pub record Silent (w : World) : Type 0 where
   pub none : coins_among w.events ≡ []
   pub empty : w.held ≡ None
 
--- the lines tell as many coins as were accepted, and a bill that is held has a place
+-- the lines show as many coins as were accepted, and a bill that is held has a place
 abbrev pub Tells : World → Type 0
 Tells w = (w.accepted ≡ length w.coins) × ((place : ℕ) → w.held ≡ Some place → 1 ≤ place)
 

@@ -1,5 +1,5 @@
--- A hopper posts nothing: no line of it tells of money that was taken, so each is in order, and none is lost at it in
--- silence. So that holds of every device of a setup, of any kind.
+-- A hopper posts nothing: no line of it shows money that was taken, so each is in order, and none
+-- is lost at it in silence. So that holds of every device of a setup, of any kind.
 use Rattle.std.proofs.Common.{refl, ◌≡◌, ℕ, ◌-◌, nat_le, cond, Bool, true, false, List, ◌∷◌, ◌++◌, subst, Option, Some, None, All, inl, inr, sym, ap, ◌∙◌}
 use Rattle.std.specs.Prelude.{⊤}
 use Rattle.cct_model.specs.terms.device.DeviceBody.{DeviceBody}
@@ -189,7 +189,7 @@ each_covers capacity setup steps transcript d sound own in_range legal honest pa
       | inr paying ↦ (legal_coinless capacity setup steps transcript d sound own paying in_range legal honest).1
     ]
 
--- and after each line the coins up to the mark are as many as its records post and tell to be lost
+-- and after each line the coins up to the mark are as many as its records post and report as lost
 pub each_tallies : (capacity : ℕ) (setup : Setup) (steps : List Step) (transcript : List Entry)
     (d : DeviceSetup) → IsSoundSetup setup → IsOf setup d → All IsInRange steps →
     Legal capacity setup steps transcript → Honest transcript → Pace (lines_in d transcript) →

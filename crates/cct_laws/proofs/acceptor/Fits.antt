@@ -104,7 +104,7 @@ pub record Reads (b : ReadSoFar) (posted : List Coin) : Type 0 where
   pub goes_on : b.mark ≤ length b.known
   pub newest : AreNewest posted (take (length b.known - b.mark) b.known)
 
--- what the event counter that was read tells beside the recorded one
+-- what the event counter that was read shows beside the recorded one
 pub record Counts (c k : ℕ) : Type 0 where
   pub none : distance c k ≡ 0 → c ≡ k
   pub first : k ≡ 0 → c ≡ 0

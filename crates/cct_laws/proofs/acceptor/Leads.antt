@@ -47,7 +47,7 @@ neutral_leads AcceptCount behind rows neutral other = absurd neutral
 neutral_leads (SetMaster value) behind rows neutral other = absurd neutral
 neutral_leads q behind rows neutral other = (neutral, other)
 
--- or one that tells, the accept counter too
+-- or one that only reports, the accept counter too
 asked_leads : (q : Request) (behind : Then) (rows : List TableRow) → IsTold q → IsAfterCount behind rows →
     AfterCount rows → Behind IsOtherEnd behind → Leads (asks_for q behind) rows
 asked_leads AcceptCount behind rows told after next other = (after, next)

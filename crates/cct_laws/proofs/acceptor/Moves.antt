@@ -150,7 +150,7 @@ keeps_reset d past lines keeps =
     (record { orders = tt; covers = tt; well = tt; book_stays = refl; job_stays = refl })
     (on_resetting d.body past lines) keeps
 
--- a bill is put in: it is given back, or it is held, which no line tells
+-- a bill is put in: it is given back, or it is held, which no line shows
 pub keeps_rejecting : (d : DeviceSetup) (past : List Met) (lines : List Line) (place : ℕ) → IsBill d.body →
     holds past place ≡ false → Keeps d past lines → Keeps d (met.coin place ∷ past) (inhibited place ∷ lines)
 keeps_rejecting d past lines place billing is keeps =
@@ -248,7 +248,7 @@ neutral_fits w b AcceptCount behind rows notes judged neutral fits = absurd neut
 neutral_fits w b (SetMaster value) behind rows notes judged neutral fits = absurd neutral
 neutral_fits w b q behind rows notes judged neutral fits = fits
 
--- rows that tell need nothing, after the accept counter too
+-- rows that only report need nothing, after the accept counter too
 told_counts : (w : World) (b : ReadSoFar) (q : Request) (behind : Then) (rows : List TableRow) (notes : Notes) →
     IsTold q → CountsAt w b (asks_for q behind ∷ rows) notes
 told_counts w b ReadCredits behind rows notes told = absurd told
@@ -327,7 +327,7 @@ pub failure_other : (d : DeviceSetup) (c : Command) (q : Request) (since : List 
     IfOther (end_of d c (exchange (Some q) None) since state)
 failure_other d c q since state = failed_end IsOtherEnd d c q since state (bare_other d c) tt
 
--- it tells nothing of credits, a mask, an accept counter or a reading
+-- it shows nothing of credits, a mask, an accept counter or a reading
 unanswered_fits : (d : DeviceSetup) (now : List Met) (lines : List Line) (c : Command) (since : List Line) (q : Request) →
     FitsAt (world d now lines) (read_so_far lines) (rest d c (exchange (Some q) None ∷ since)) (notes_in since) (judged_in c since (epoch lines)) →
     FitsBehind d now (exchange (Some q) None ∷ lines) c (exchange (Some q) None ∷ since)

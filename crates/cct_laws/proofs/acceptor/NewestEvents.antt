@@ -1,4 +1,4 @@
--- The coins of the newest events, and what a credit buffer tells of them.
+-- The coins of the newest events, and what a credit buffer shows of them.
 use Rattle.std.proofs.Common.{◌≡◌, ℕ, ◌-◌, ◌≤◌, min, cond, eqb, true, false, Bool, List, [], ◌∷◌, ◌++◌, length, take, drop, reverse, refl, ap, sym, ◌∙◌, arith, take-append-drop, take-take, length-append, append_assoc, take_at, replicate}
 use Rattle.std.proofs.lemmas.List.{reverse-reverse, take-append-le}
 use Rattle.cct_model.specs.terms.coin.Pair.{Pair}

@@ -1,4 +1,4 @@
--- What a record that a job has to put tells of its device.
+-- What a record that a job has to put shows of its device.
 use Rattle.std.proofs.Common.{◌≡◌, ℕ, true, List, [], ◌∷◌, subst, Option, Some, None}
 use Rattle.std.specs.Prelude.{⊤}
 use Rattle.cct_model.specs.terms.device.DeviceSetup.{DeviceSetup}

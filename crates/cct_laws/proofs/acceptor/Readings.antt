@@ -1,4 +1,5 @@
--- What an acceptor's credits, then its mask and then its accept counter tell, where they are read while an epoch runs.
+-- What an acceptor's credits, then its mask and then its accept counter show, where they are read
+-- while an epoch runs.
 use Rattle.std.proofs.Common.{◌≡◌, ◌≢◌, ℕ, ◌+◌, ◌-◌, ◌<◌, ◌≤◌, ◌==◌, ◌&&◌, inl, inr, min, cond, Bool, true, false, List, [], ◌++◌, length, take, drop, reverse, replicate, refl, ap, sym, ◌∙◌, subst, subst₂, Option, Some, arith, eqb-true, take-append-drop, length-append, length-take}
 use Rattle.std.specs.Prelude.{◌^◌}
 use Rattle.std.proofs.lemmas.Bool.{le-leb, and_parts}
@@ -109,7 +110,7 @@ held_now w b (Running mask c accepts) notes known read marked running begun runs
   tracks = tracks_known w b mask known runs.tracks.nonzero;
 }
 
--- the lines tell this at a look at the mask
+-- the lines show this at a look at the mask
 abbrev pub looked_at : World → ReadSoFar → ReadSoFar
 looked_at w b = record {
   mark = b.mark;
@@ -144,7 +145,7 @@ sees_now w b (Running mask c accepts) notes few runs held = record {
     silent_now w mask other (inl is) = absurd (other is)
     silent_now w mask other (inr silent) = silent
 
--- what accept counters tell, of fewer coins than 2 ^ 24
+-- what accept counters show, of fewer coins than 2 ^ 24
 
 same_count : (start fewer more : ℕ) → fewer ≤ more → more < fewer + 2 ^ 24 → count_from start fewer ≡ count_from start more →
     fewer ≡ more
@@ -168,7 +169,7 @@ part_length cs m = omega (arith, length-take (length cs - m) cs)
 unposted : (part gained posted : ℕ) → part ≡ gained → posted ≤ part → part ≡ (gained - posted) + posted
 unposted part gained posted same most = omega (arith, same, most)
 
--- what they tell of a reading of an epoch
+-- what they show of a reading of an epoch
 
 near_mark : (w : World) (m : ℕ) (from : Option ℕ) (mask c accepts : ℕ) → Runs w m from mask c accepts →
     IsNear from (length w.coins) → length w.coins < m + 2 ^ 24
@@ -224,7 +225,7 @@ counts_same mask seen before now is stays = grind (arith, nat_tests)
 fewer_is : (known seen : List Coin) → length known ≤ length seen → fewer known seen ≡ known
 fewer_is known seen few = rw (le-leb (length known) (length seen) few) refl
 
--- the lines tell this at the second reading of the accept counter
+-- the lines show this at the second reading of the accept counter
 abbrev pub counted_at : World → ReadSoFar → EpochState → ReadSoFar
 counted_at w b state = record {
   mark = b.mark;

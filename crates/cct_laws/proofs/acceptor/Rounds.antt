@@ -35,7 +35,7 @@ use Rattle.cct_laws.proofs.wire.Replies.{start_of, IsReading, judged_as, reading
 use Rattle.cct_model.specs.Rows.{done, Then, if_judged, if_unmoved, if_posted, new_epoch, reading, TableRow, asks_for, puts_due, rows_of, rest, end_by_answer, end_kept, sent_once}
 use Rattle.cct_model.proofs.Rows.{EachRow, each_told, each_after, Behind, behind_answer, put_leaves}
 
--- what the last events tell an epoch
+-- what the last events say to an epoch
 held_at : (d : DeviceSetup) (past : List Met) (lines since : List Line) (q : Request) (credits : Credits) → IsReading q →
     judged_as q credits ≡ credits_at (world d past lines) →
     Begins (world d past lines) (read_so_far lines) (notes_in since) → Sound d past lines →

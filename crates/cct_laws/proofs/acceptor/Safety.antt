@@ -1,5 +1,5 @@
--- Where a device that takes money is safe in every legal transcript over an honest wire: which mask it has, what its events then tell, and
--- why its epoch breaks.
+-- Where a device that takes money is safe in every legal transcript over an honest wire: which mask
+-- it has, what its events then show, and why its epoch breaks.
 use Rattle.std.proofs.Common.{◌≡◌, ℕ, false, List, [], ◌∷◌, ◌++◌, take, drop, take-append-drop, refl, ap, sym, ◌∙◌, subst, None, replicate}
 use Rattle.cct_model.specs.terms.coin.Coin.{Coin}
 use Rattle.cct_model.specs.terms.coin.Pair.{Pair}
@@ -28,7 +28,7 @@ use Rattle.cct_laws.proofs.steps.EitherKind.{for_taker}
 use Rattle.cct_laws.proofs.steps.EachKeeps.{IsRanged}
 use Rattle.cct_laws.proofs.acceptor.Masks.{MaskedIn, Masks, masks_kept, masks_silent, masks_break}
 
--- a credit buffer shows no coin where the events tell none
+-- a credit buffer shows no coin where the events show none
 front_nil : (xs ys : List Coin) → xs ++ ys ≡ [] → xs ≡ []
 front_nil [] ys none = refl
 front_nil (coin ∷ xs) ys none = absurd cc

@@ -1,5 +1,5 @@
--- Where posts are in order and no coin is lost in silence, the coins up to the mark are as many as all that were posted and
--- all that were told to be lost, after each line.
+-- Where posts are in order and no coin is lost in silence, the coins up to the mark are as many as
+-- all that were posted and all that were reported as lost, after each line.
 use Rattle.std.proofs.Common.{◌≡◌, ℕ, ◌+◌, ◌-◌, ◌≤◌, List, [], ◌∷◌, length, refl, ap, arith, length-take}
 use Rattle.cct_model.specs.terms.coin.Coin.{Coin}
 use Rattle.cct_model.specs.lines.record.Record.{Record}
@@ -12,7 +12,7 @@ use Rattle.cct_laws.specs.Scope.{EachTaker}
 use Rattle.cct_laws.specs.Tallying.{AlwaysTallies}
 use Rattle.cct_laws.proofs.acceptor.Posts.{legal_in_order, legal_covers}
 
--- an item that tells up to these coins
+-- an item that reports up to these coins
 
 told_part : (past : List Line) (known : List Coin) (count : ℕ) → mark past ≤ length known →
     length (part past known) ≡ count → length known ≡ count + mark past
@@ -65,8 +65,8 @@ legal_tallies capacity setup steps transcript d sound own taking in_range legal 
     (legal_in_order capacity setup steps transcript d sound own taking in_range legal honest)
     (legal_covers capacity setup steps transcript d sound own taking in_range legal honest pace)
 
--- A reading that tells of a coin before any came is wrong at once, and the coin that comes later makes it right again at the
--- begin of an epoch. That is tallied at the end alone.
+-- A reading that reports a coin before any came is wrong at once, and the coin that comes later
+-- makes it right again at the begin of an epoch. That is tallied at the end alone.
 abbrev lost_too_early : List Line
 lost_too_early =
     put (record_of.Epoch 2 1 0) ∷ accepted (record { place = 1; path = 1 }) ∷ put (record_of.Reading 2 0 1 0 []) ∷ []

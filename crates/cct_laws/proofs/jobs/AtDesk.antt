@@ -1,4 +1,5 @@
--- What is told of the desk of the operator alone brings no device anything, and no scan, no sale and no record.
+-- What is reported of the desk of the operator alone brings no device anything, and no scan, no
+-- sale and no record.
 use Rattle.std.proofs.Common.{◌≡◌, ℕ, List, [], ◌∷◌, ◌++◌, refl, rules}
 use Rattle.std.specs.Prelude.{⊤}
 use Rattle.cct_model.specs.terms.device.DeviceSetup.{DeviceSetup}

@@ -60,7 +60,7 @@ pub record Counted (start : ℕ) (lines since : List Line) : Type 0 where
 pub counted_none : (start : ℕ) (lines : List Line) → Counted start lines []
 counted_none start lines = record { now = λ n is. cc; before = λ n is. cc }
 
--- other lines that tell of as many
+-- other lines that show as many
 pub counted_same : (start : ℕ) (lines others since : List Line) → counted_now others ≡ counted_now lines →
     counted_before others ≡ counted_before lines → Counted start lines since → Counted start others since
 counted_same start lines others since now before counted = record {
@@ -243,7 +243,7 @@ first_moved (asks_once q behind without ∷ rows) y means others is = behind_mov
 first_moved (waits_for_coins ∷ rows) y means others is = cc
 first_moved (puts_due due behind ∷ rows) y means others is = cc
 
--- so an answer that ends it so tells of a coin
+-- so an answer that ends it so shows that a coin came
 tells_of : (lines : List Line) (end : End) → (end ≡ Moved → counted_before lines < counted_now lines) →
     MovedAt lines (ended end)
 tells_of lines Moved holds = holds refl

@@ -446,7 +446,7 @@ job_step capacity setup d c nexts past news s played ids at alone finds told =
       | seen_lost lost no_next ↦ absurd (none_lost d past news lost alone)
     ]
 
--- an entry that tells of a forged exchange is no end, and no line of the job
+-- an entry that reports a forged exchange is no end, and no line of the job
 goes_forged : (d : DeviceSetup) (c : Command) (nexts : ℕ) (past : List Entry) → GoesOverForged (Goes d c nexts past)
 unfolding Goes
 goes_forged d c nexts past news addr (inl shows) = inl shows
@@ -481,7 +481,7 @@ work_later P addr past news (e ∷ later) none each = (
   work_later P addr past news later none each.1,
 )
 
--- a step, by all that it tells
+-- a step, by all that it reports
 job_told : (capacity : ℕ) (setup : Setup) (d : DeviceSetup) (c : Command) (nexts : ℕ) (past news : List Entry)
     (s : Step) → IsPlayed setup d c → Ids setup past → JobAt d c (suc nexts) past →
     EachWhileRunning (LeavesAlone d.addr) d.addr past news →

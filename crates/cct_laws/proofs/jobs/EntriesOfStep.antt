@@ -1,5 +1,5 @@
--- What a legal step tells: what it brought, and after an exchange that was forged the entry that shows so. And how a fact
--- that each step keeps goes along all of them.
+-- What a legal step reports: what it brought, and after an exchange that was forged the entry that
+-- shows so. And how a fact that each step keeps goes along all of them.
 use Rattle.std.proofs.Common.{◌≡◌, ◌⊎◌, inl, inr, ℕ, Bool, true, false, cond, List, [], ◌∷◌, ◌++◌, refl, ap, sym, subst, Option, Some, None, All}
 use Rattle.std.specs.Prelude.{⊤}
 use Rattle.std.proofs.lemmas.List.Elements.{All-head, All-tail, All-nil, All-cons}
@@ -17,7 +17,7 @@ use Rattle.cct_model.specs.Line.{Line}
 use Rattle.cct_model.specs.Transcript.{met, pending}
 use Rattle.cct_laws.proofs.jobs.StepBrings.{IsOfDesk, tells_stock, begins_change, keeps_change, serves_none, serves_later, serves_odd, serves_all, serves_short, Comes, takes_coin, leaves_coin, takes_bill, leaves_bill, leaves_alien, drops_coin, drops_none, jams, jams_none, is_reset, AtDevice, came, took, halted, idled, made_exchange, made_put, wire_end, record_end, poll_end, Brought, of_device, faulted, refused, began_scan, began_sale, nobody, polled, sold, balanced, of_desk, ended_short, lost_power, lost_in_put, lost_in_sale, told_of, brought}
 
--- an entry is no exchange, and tells of none that was forged
+-- an entry is no exchange, and reports none that was forged
 abbrev pub TellsNoExchange : Entry → Type 0
 TellsNoExchange (entry.Wire addr sent piece) = ⊥
 TellsNoExchange (entry.Forged addr) = ⊥
@@ -90,7 +90,7 @@ makes capacity setup past _ _ (lost_power at choice) = makes_none _ _ (tt, tt)
 makes capacity setup past _ _ (lost_in_put at choice d c since r own at_work is_row) = makes_none _ _ (tt, (tt, tt))
 makes capacity setup past _ _ (lost_in_sale at choice id price since none selling) = makes_none _ _ (tt, (tt, tt))
 
--- entries without an exchange have nothing told after them
+-- nothing is reported after entries without an exchange
 pub unforged : (past news : List Entry) → TellNoExchange news → forged_after past news ≡ []
 unforged past [] plain = refl
 unforged past (entry.Wire addr sent piece ∷ earlier) plain = absurd plain.0
@@ -108,7 +108,7 @@ forged_or_not past [] = inl refl
 forged_or_not past (entry.Wire addr sent piece ∷ earlier) = forged_by (is_honest (pending (earlier ++ past)) sent) addr
 forged_or_not past (e ∷ earlier) = forged_or_not past earlier
 
--- what a legal step tells
+-- what a legal step reports
 pub record Telling (capacity : ℕ) (setup : Setup) (past : List Entry) (s : Step) (news : List Entry) : Type 0 where
   pub told : List Entry
   pub brings : Brought capacity setup past s told
@@ -141,11 +141,11 @@ tells capacity setup past news s entries =
       whole = told_whole capacity setup past news s entries (makes capacity setup past (told_of s news) s brings);
     }
 
--- a fact goes on over an entry that tells of a forged exchange
+-- a fact goes on over an entry that reports a forged exchange
 abbrev pub GoesOverForged : (List Entry → Type 0) → Type 0
 GoesOverForged Q = (past : List Entry) (addr : ℕ) → Q past → Q (entry.Forged addr ∷ past)
 
--- so what holds of the entries that a step brought holds of all that it tells
+-- so what holds of the entries that a step brought holds of all that it reports
 pub over_telling : (capacity : ℕ) (setup : Setup) (past news : List Entry) (s : Step) (Q : List Entry → Type 0) →
     GoesOverForged Q → (told : Telling capacity setup past s news) → Q told.told → Q news
 over_telling capacity setup past news s Q over told holds =
@@ -164,7 +164,8 @@ each_step capacity setup S Q keeps past (s ∷ steps) end each legal holds =
     each_step capacity setup S Q keeps (legal.0 ++ past) steps end (All-tail S s steps each) legal.2
     (keeps past legal.0 s (All-head S s steps each) (tells capacity setup past legal.0 s legal.1) holds)
 
--- so it is enough that each keeps it by what it brought, and that it goes on over an entry that tells of a forged exchange
+-- so it is enough that each keeps it by what it brought, and that it goes on over an entry that
+-- reports a forged exchange
 pub each_brought : (capacity : ℕ) (setup : Setup) (S : Step → Type 0) (Q : List Entry → Type 0) →
     ((past news : List Entry) (s : Step) → S s → Brought capacity setup past s news → Q past → Q (news ++ past)) →
     GoesOverForged Q → (past : List Entry) (steps : List Step) (end : List Entry) → All S steps →

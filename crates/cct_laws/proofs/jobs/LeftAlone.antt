@@ -32,7 +32,7 @@ use Rattle.cct_model.proofs.Rows.{RowHolds}
 use Rattle.cct_laws.proofs.jobs.SeenAtOne.{IsLoose, loose, loose_line}
 use Rattle.std.specs.Prelude.{⊤}
 
--- lines tell the same job, epoch and open order
+-- lines show the same job, epoch and open order
 pub record AreSame (one other : List Line) : Type 0 where
   pub jobs : job one ≡ job other
   pub epochs : epoch one ≡ epoch other

@@ -50,7 +50,7 @@ use Rattle.cct_laws.proofs.jobs.SeenAtOne.{ArePassed, doses_told, loose, loose_l
 use Rattle.cct_laws.proofs.jobs.EntriesOfStep.{tells, GoesOverForged, over_telling, any_steps}
 use Rattle.cct_laws.proofs.orders.Ids.{ids_start, put_owned}
 
--- a device has accepted as many coins as its lines tell, whatever the wire does
+-- a device has accepted as many coins as its lines show, whatever the wire does
 abbrev IsTold : DeviceSetup → List Entry → Type 0
 IsTold d past = accepted_of d.body (met d past) ≡ length (coins (lines_of d past))
 
@@ -389,7 +389,7 @@ counts_step capacity setup d c past news s played taking ids at alone brings =
       | seen_lost lost no_next ↦ absurd (none_lost d past news lost alone)
     ]
 
--- an entry that tells of a forged exchange is no end, and no line of the job
+-- an entry that reports a forged exchange is no end, and no line of the job
 counts_forged : (d : DeviceSetup) (c : Command) (past : List Entry) → GoesOverForged (Counts d c past)
 unfolding Counts
 counts_forged d c past news addr counts = (((λ none. tt), counts.0), λ none. after (counts.1 none))

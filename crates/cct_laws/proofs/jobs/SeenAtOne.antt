@@ -53,9 +53,9 @@ AreForOthers [] = ⊤
 AreForOthers (heard asked ∷ met) = IsForOthers asked × AreForOthers met
 AreForOthers (m ∷ met) = ⊥
 
--- an entry is none of a device: no line of it but of what it did, which it heard from a damaged wire, and nothing
--- that it met but what is for others. It begins no epoch of it, puts no break of it and ends no job of it; and its lines
--- tell as many coins as it accepted, if they did before
+-- an entry is none of a device: no line of it but of what it did, which it heard from a damaged
+-- wire, and nothing that it met but what is for others. It begins no epoch of it, puts no break of
+-- it and ends no job of it; and its lines show as many coins as it accepted, if they did before
 pub record Passes (d : DeviceSetup) (past : List Entry) (e : Entry) : Type 0 where
   pub dosed : AreDoses (own d past e)
   pub no_line : IsHonestAt past e → own d past e ≡ []
@@ -70,7 +70,7 @@ abbrev pub ArePassed : DeviceSetup → List Entry → List Entry → Type 0
 ArePassed d past [] = ⊤
 ArePassed d past (e ∷ news) = Passes d (news ++ past) e × ArePassed d past news
 
--- after an exchange a device's lines tell as many coins as it accepted, if they did before
+-- after an exchange a device's lines show as many coins as it accepted, if they did before
 dispensed_told : (count : Option ℕ) (lines : List Line) → 0 ≡ length (coins lines) →
     0 ≡ length (coins (dispensed_by count ++ lines))
 dispensed_told None lines told = told
@@ -525,7 +525,7 @@ unscanned capacity setup d past _ _ sound is_of (made_exchange c since q at_work
 unscanned capacity setup d past _ _ sound is_of (made_put c since r at_work is_row) =
     unscanned_end past d.addr (entry.Put r) (record_end d past c since r) (not_zero setup d sound is_of) refl
 
--- ids stay in order over all that a step tells
+-- ids stay in order over all that a step reports
 pub ids_told : (capacity : ℕ) (setup : Setup) (past news : List Entry) (s : Step) → IsSoundSetup setup →
     Telling capacity setup past s news → Ids setup past → Ids setup (news ++ past)
 ids_told capacity setup past news s sound told ids =
@@ -533,8 +533,8 @@ ids_told capacity setup past news s sound told ids =
     (λ older addr at. ids_forged setup (older ++ past) addr at) told
     (ids_step capacity setup past told.told s sound told.brings ids)
 
--- a fact that each step keeps, each of which has a fact of its own, and that goes on over an entry that tells of a forged
--- exchange, from a past whose ids are in order
+-- a fact that each step keeps, each of which has a fact of its own, and that goes on over an entry
+-- that reports a forged exchange, from a past whose ids are in order
 pub along_from : (capacity : ℕ) (setup : Setup) (S : Step → Type 0) (Q : List Entry → Type 0) → IsSoundSetup setup →
     ((past news : List Entry) (s : Step) → S s → Ids setup past → Brought capacity setup past s news → Q past →
     Q (news ++ past)) → GoesOverForged Q →

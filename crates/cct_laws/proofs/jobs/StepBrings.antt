@@ -1,5 +1,6 @@
--- What one step of a machine brought: the one view of a legal step by which each law goes by cases. That an exchange was
--- forged, which the last entry of a `next` may tell, is no part of it (`Telling.antt`).
+-- What one step of a machine brought: the one view of a legal step by which each law goes by cases.
+-- That an exchange was forged, which the last entry of a `next` may show, is no part of it
+-- (`Telling.antt`).
 use Rattle.std.proofs.Common.{◌≡◌, ◌<◌, inl, inr, ℕ, zero, suc, ◌==◌, cond, true, false, Bool, List, [], ◌∷◌, ◌++◌, refl, ap, sym, ◌∙◌, subst, Option, Some, None, MatchBool, eqb-true}
 use Rattle.std.specs.Prelude.{◌&&◌, ⊤, not}
 use Rattle.std.specs.List.{list_any}
@@ -156,7 +157,7 @@ pub data Due (setup : Setup) (past : List Entry) : Record → Type 0 where
   from_sale : (id price : ℕ) (since : List Line) → device_at setup.devices HOST ≡ None → Selling past id price since →
       Due setup past (record_of.Sold id price)
 
--- what is told of the desk of the operator alone
+-- what is reported of the desk of the operator alone
 pub data IsOfDesk : Step → Entry → Type 0 where
   tells_stock : (addr count : ℕ) → IsOfDesk (step.Stock addr count) (entry.Stock addr count)
   begins_change : (first amount : ℕ) → IsOfDesk (step.Change first amount) (entry.ChangeOk first amount)
@@ -167,9 +168,10 @@ pub data IsOfDesk : Step → Entry → Type 0 where
   serves_all : (amount : ℕ) → IsOfDesk step.Serve (entry.Served amount)
   serves_short : (paid rest : ℕ) → IsOfDesk step.Serve (entry.Short paid rest)
 
--- what a step brought: something at a device of the setup; or a fault was set, a command was refused, a scan or a sale was
--- begun or went on, nobody was there, the balance was read; or it told of the desk of the operator, or a payment of a
--- session of change was refused; or the power was cut, within a put or not
+-- what a step brought: something at a device of the setup; or a fault was set, a command was
+-- refused, a scan or a sale was begun or went on, nobody was there, the balance was read; or it
+-- reported on the desk of the operator, or a payment of a session of change was refused; or the
+-- power was cut, within a put or not
 pub data Brought (capacity : ℕ) (setup : Setup) (past : List Entry) : Step → List Entry → Type 0 where
   of_device : (d : DeviceSetup) (s : Step) (news : List Entry) → IsOf setup d → AtDevice capacity setup d past s news →
       Brought capacity setup past s news
@@ -280,7 +282,7 @@ begun_at_work body c lines suited = refl
 pub of_found : (setup : Setup) (addr : ℕ) (d : DeviceSetup) → device_at setup.devices addr ≡ Some d → IsOf setup d
 of_found setup addr d was = ap (device_at setup.devices) (address_found setup addr d was) ∙ was
 
--- what a step brought at a device, told by its address
+-- what a step brought at a device, given by its address
 there : (capacity : ℕ) (setup : Setup) (past : List Entry) (s : ℕ → Step) (news : ℕ → List Entry) (addr : ℕ)
     (d : DeviceSetup) → device_at setup.devices addr ≡ Some d →
     AtDevice capacity setup d past (s d.addr) (news d.addr) → Brought capacity setup past (s addr) (news addr)
@@ -370,7 +372,7 @@ unowed : (owed : Option OpenOrder) → order_refusal owed ≡ None → owed ≡ 
 unowed None none = refl
 unowed (Some o) none = absurd cc
 
--- what the tests of a command at a device tell of its epoch and of its open order
+-- what the tests of a command at a device show of its epoch and of its open order
 PassesAt : DeviceSetup → List Line → ℕ → Command → Type 0
 PassesAt d lines last c = Pass (state_fails (view_of (Some d) lines last)) (state_tests c)
 

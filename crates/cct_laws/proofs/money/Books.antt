@@ -283,7 +283,7 @@ books_step capacity setup past news s sound range ids told books = record {
   counts = counts_step capacity setup past news s sound ids told books;
 }
 
--- an entry that tells of a forged exchange is none of them
+-- an entry that reports a forged exchange is none of them
 pub books_forged : (capacity : ℕ) (setup : Setup) (past : List Entry) (addr : ℕ) → Books capacity setup past →
     Books capacity setup (entry.Forged addr ∷ past)
 books_forged capacity setup past addr books = record {

@@ -178,7 +178,7 @@ counts_same capacity setup past later sound same sale same_records counts =
         many_later + here_later ≤ many + here + 0
     unheld many many_later here here_later first second = omega (arith, first, second)
 
--- where no job runs, what is covered is what the records tell
+-- where no job runs, what is covered is what the records show
 pub counts_lost : (capacity : ℕ) (setup : Setup) (later : List Entry) → IsSoundSetup setup → HasNoJob later →
     all_follow setup (records later) ≡ true → length (records later) + held setup later ≤ capacity →
     Counts capacity setup later

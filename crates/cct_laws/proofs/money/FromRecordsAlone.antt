@@ -1,4 +1,4 @@
--- What records alone tell.
+-- What records alone show.
 use Rattle.std.proofs.Common.{◌≡◌, ℕ, ◌+◌, ◌-◌, ◌==◌, Bool, true, false, cond, List, [], ◌∷◌, ◌++◌, refl, ap, ◌∙◌, Option, Some, None, arith}
 use Rattle.cct_model.specs.terms.device.DeviceBody.{DeviceBody}
 use Rattle.cct_model.specs.terms.device.DeviceBody.TheVariants.{Acceptor, Bill, Hopper}
@@ -169,7 +169,7 @@ last_recorded setup past none =
     let sale : sale_id (job (sale_lines past)) ≡ 0 = ap sale_id none.sale in
     omega arith
 
--- what the operator has is what the records tell
+-- what the operator has is what the records show
 abbrev totals_of : Setup → List Record → ℕ → Totals
 totals_of setup before much = record {
   available = posted_in setup before - (much + paid_in setup before + sold_in before);

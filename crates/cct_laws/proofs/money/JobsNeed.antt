@@ -49,7 +49,7 @@ Needs d (works c since) state owed = NeedsOf d (rest d c since) state owed
 abbrev pub NeedsIn : DeviceSetup → List Line → Type 0
 NeedsIn d lines = Needs d (job lines) (epoch lines) (order lines)
 
--- lines that tell the same
+-- lines that show the same
 needs_same : (d : DeviceSetup) (one other : List Line) → AreSame one other → NeedsIn d other → NeedsIn d one
 needs_same d one other same needs =
     subst (λ j. Needs d j (epoch one) (order one)) (sym same.jobs)

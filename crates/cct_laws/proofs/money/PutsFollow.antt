@@ -95,7 +95,7 @@ IsRanged d (new_order id count) = (is_hopper d.body ≡ true) × (1 ≤ id) × (
 IsRanged d (sale id price) = ⊥
 IsRanged d due = ⊤
 
--- the device at an address, whose epoch and open order the records tell
+-- the device at an address, whose epoch and open order the records show
 pub record Stands (setup : Setup) (before : List Record) (d : DeviceSetup) (addr : ℕ) (state : EpochState)
     (owed : Option OpenOrder) : Type 0 where
   pub found : device_at setup.devices addr ≡ Some d

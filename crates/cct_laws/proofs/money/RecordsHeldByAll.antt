@@ -30,7 +30,7 @@ holds_as : (d : DeviceSetup) (lines : List Line) (j : Job) → job lines ≡ j �
     holds_of d lines ≡ holds_with d j (epoch lines) (order lines)
 holds_as d lines j is = ap (λ x. holds_with d x (epoch lines) (order lines)) is
 
--- lines that tell the same job, epoch and order hold the same
+-- lines that show the same job, epoch and order hold the same
 pub holds_same : (d : DeviceSetup) (one other : List Line) → job one ≡ job other → epoch one ≡ epoch other →
     order one ≡ order other → holds_of d one ≡ holds_of d other
 holds_same d one other jobs epochs orders =

@@ -82,7 +82,7 @@ pub ids_ended : (setup : Setup) (past : List Entry) (addr : ℕ) (e : Entry) (en
 ids_ended setup past addr e None ids = ids
 ids_ended setup past addr e (Some end) ids = ids_quiet setup (e ∷ past) (entry.Ended addr end) tt refl ids
 
--- an entry that tells of a forged exchange
+-- an entry that reports a forged exchange
 pub ids_forged : (setup : Setup) (past : List Entry) (addr : ℕ) → Ids setup past → Ids setup (entry.Forged addr ∷ past)
 ids_forged setup past addr ids = ids_quiet setup past (entry.Forged addr) tt refl ids
 

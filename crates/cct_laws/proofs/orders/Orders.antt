@@ -1,4 +1,5 @@
--- The orders that records tell: an order that is open by its id is the open one of its hopper, and no other is.
+-- The orders that records show: an order that is open by its id is the open one of its hopper, and
+-- no other is.
 use Rattle.std.proofs.Common.{◌≡◌, ◌≢◌, ℕ, ◌≤◌, ◌<◌, ◌==◌, Bool, true, false, cond, List, [], ◌∷◌, refl, ap, sym, ◌∙◌, subst, Option, Some, None, is_none, not, leb-true, ◌⊎◌, inl, inr, arith, true≢false, eq-eqb, eqb-true}
 use Rattle.std.specs.List.{list_any}
 use Rattle.std.proofs.lemmas.Bool.{and_parts, cases_eq, ne_eqb}

@@ -1,5 +1,5 @@
--- What is legal at the desk of the operator is legal: whatever is known there tells one of the ways in which a `change` and a
--- `serve` may go.
+-- What is legal at the desk of the operator is legal: whatever is known there shows one of the ways
+-- in which a `change` and a `serve` may go.
 use Rattle.std.proofs.Common.{◌≡◌, ◌≢◌, ◌⊎◌, inl, inr, ℕ, zero, suc, ◌<◌, ◌≤◌, ◌==◌, ◌^◌, Bool, true, false, cond, List, [], ◌∷◌, ◌++◌, reverse, flat_map, refl, sym, ap, subst, ◌∙◌, Option, Some, None, All, arith}
 use Rattle.std.specs.Prelude.{MatchBool, min, ⊤}
 use Rattle.std.proofs.lemmas.Bool.Decides.{nat_tests}

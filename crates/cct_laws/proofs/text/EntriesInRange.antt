@@ -1,4 +1,4 @@
--- What an entry of a legal transcript tells: bytes and masks in range.
+-- What an entry of a legal transcript shows: bytes and masks in range.
 use Rattle.std.proofs.Common.{ℕ, ◌-◌, ◌<◌, ◌==◌, nat_le, Bool, true, false, cond, List, [], ◌∷◌, ◌++◌, Option, Some, None, arith, All, rules}
 use Rattle.std.specs.Prelude.{⊤, unwrap_or, option_and_then, flat_map}
 use Rattle.std.proofs.lemmas.List.Elements.{All-head, All-tail}
@@ -52,7 +52,7 @@ use Rattle.cct_laws.proofs.text.Answering.{FitsMet, FitsAll, there_or, answer_by
 abbrev pub FitsCommand : Command → Type 0
 FitsCommand c = script.IsCommand c × IsCommandOfBytes c
 
--- an entry tells bytes and masks in range; a load's sums are none of a script's entries
+-- an entry shows bytes and masks in range; a load's sums are none of a script's entries
 abbrev pub IsTold : Entry → Type 0
 IsTold (entry.Accepted addr c) = c.place < 256
 IsTold (entry.Held addr place) = place < 256
@@ -85,7 +85,7 @@ told_written (entry.Held addr place) h = tt
 told_written (entry.Inhibited addr place) h = tt
 told_written e h = h
 
--- what a line tells
+-- what a line shows
 abbrev FitsLine : Line → Type 0
 FitsLine (exchange asks found) = IfThere FitsReply found
 FitsLine (taken c) = FitsCommand c

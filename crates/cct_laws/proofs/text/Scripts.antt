@@ -159,7 +159,7 @@ legal_right capacity setup steps transcript sound in_range legal = record {
   as_told = legal_as_told capacity setup steps transcript legal;
 }
 
--- what a script played at the desk up to a step is legal
+-- what a script played at the operator's desk up to a step is legal
 pub front_legal : (capacity : ℕ) (bytes : List ℕ) (played rest : List Step) (transcript : List Entry) →
     (script bytes).steps ≡ played ++ rest → LegalAtDesk capacity (script bytes).setup played transcript →
     Legal capacity (script bytes).setup played transcript
@@ -175,7 +175,8 @@ played_right capacity bytes played rest transcript fronts legal =
     legal_right capacity (script bytes).setup played transcript (setup_sound bytes)
     (front_of_today bytes played rest fronts).in_range legal
 
--- the texts of two scripts that were played up to a step tell their transcripts, whatever the journals take
+-- the texts of two scripts that were played up to a step show their transcripts, whatever the
+-- journals take
 pub played_texts : (capacity room : ℕ) (bytes other : List ℕ) (played rest others more : List Step)
     (first second : List Entry) → (script bytes).steps ≡ played ++ rest → (script other).steps ≡ others ++ more →
     Legal capacity (script bytes).setup played first → Legal room (script other).setup others second →

@@ -141,7 +141,7 @@ poll_good setup past c since check addr sound is_job is_row good =
           (poll_end setup past since check addr) line_is is_job more;
     }
 
--- what is told of the desk of the operator
+-- what is reported of the desk of the operator
 desk_told : (s : Step) (e : Entry) → IsOfDesk s e → IsTold e
 desk_told _ _ (tells_stock addr count) = tt
 desk_told _ _ (begins_change first amount) = tt

@@ -1,5 +1,5 @@
--- The entries of a `next` begin with none that tells of a forged exchange; with that one before them they are those of a
--- `next` on the wire of a machine.
+-- The entries of a `next` begin with none that reports a forged exchange; with that one before them
+-- they are those of a `next` on the wire of a machine.
 use Rattle.std.proofs.Common.{◌≡◌, inl, inr, ℕ, ◌==◌, Bool, true, false, List, [], ◌∷◌, ◌++◌, refl, sym, ap, ◌∙◌, subst, Option, Some, None}
 use Rattle.std.specs.Prelude.{MatchBool}
 use Rattle.cct_model.specs.terms.wire.TheConstants.{BROADCAST, HOST}
@@ -21,7 +21,7 @@ use Rattle.cct_model.specs.Legal.{with_end, RowEntries, NextEntries, PollEntries
 use Rattle.cct_model.specs.Transcript.{heard_after, lines_of, sale_lines, scan_lines}
 use Rattle.cct_laws.proofs.jobs.EntriesOfStep.{forged_or_not}
 
--- entries begin with none that tells of a forged exchange
+-- entries begin with none that reports a forged exchange
 abbrev BeginsOtherwise : List Entry → Type 0
 BeginsOtherwise news = without_forged news ≡ news
 

@@ -1,4 +1,4 @@
--- A legal transcript shows an honest wire exactly if no entry of it tells of a forged exchange.
+-- A legal transcript shows an honest wire exactly if no entry of it reports a forged exchange.
 use Rattle.std.proofs.Common.{◌≡◌, ℕ, Bool, true, false, cond, List, [], ◌∷◌, ◌++◌, refl, sym, ◌∙◌, subst, Option, Some, None}
 use Rattle.std.specs.Prelude.{◌↔◌, ⊤}
 use Rattle.std.proofs.lemmas.Bool.{true≢false}
@@ -14,7 +14,7 @@ use Rattle.cct_laws.specs.Law.{EachEntry}
 use Rattle.cct_laws.proofs.steps.OneMore.{onto_each, each_onto}
 use Rattle.cct_laws.proofs.jobs.EntriesOfStep.{TellNoExchange, Makes, makes_none, makes_one, makes, unforged, Telling, each_step, any_steps}
 
--- no entry of a past tells of a forged exchange
+-- no entry of a past reports a forged exchange
 abbrev UnforgedPast : List Entry → Type 0
 UnforgedPast past = EachEntry (λ older e. IsUnforged e) past
 
@@ -50,7 +50,7 @@ wire_told past addr sent piece None false test told =
 wire_told past addr sent piece (Some end) false test told =
     (λ honest. absurd (true≢false (sym honest.1.1.0 ∙ test)), λ unforged. absurd unforged.0)
 
--- all that a step tells
+-- all that a step reports
 made_told : (past news : List Entry) (s : Step) → Makes s news → IsAsTold past →
     IsAsTold ((forged_after past news ++ news) ++ past)
 made_told past _ _ (makes_none s news plain) told =
