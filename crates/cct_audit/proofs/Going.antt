@@ -164,7 +164,7 @@ audit_broke left0 left held number stage c before monitor W B g stands broke =
     of_going left0 left held number stage (c ∷ before) ending.Unwritten monitor W B g stands
     (at_tap c before later.came (ap (λ (x : Capture). x.came) (g.says (to_come left))) broke)
 
--- what is said of the writing, told otherwise
+-- what is said of the writing, put in another way
 pub audited_as : (bytes : List ℕ) (how : AuditEnd) (monitor : Monitor) (left : Option (List ℕ)) (W V : List (List ℕ) → Type 0)
     (B A : List (List ℕ) → List (List ℕ) → Type 0) → ((es : List (List ℕ)) → W es → V es)
     → ((xs ys : List (List ℕ)) → B xs ys → A xs ys) → Audited bytes how monitor left W B → Audited bytes how monitor left V A

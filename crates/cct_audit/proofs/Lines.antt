@@ -21,7 +21,7 @@ by_capture = record {
   whole = λ number stage line next parts. refl;
 }
 
--- what a line is, told otherwise
+-- what a line is, put in another way
 pub watch_told : (past : List Came) (o : Opened) (monitor : Monitor) (P Q : Read → Type 0) → ((read : Read) → P read → Q read)
     → TakesWatch past o monitor P → TakesWatch past o monitor Q
 watch_told past opened.Watched monitor P Q more takes = (takes.0, more _ takes.1, takes.2)

@@ -10,7 +10,7 @@ abbrev pub bytes_of : List (List ℕ) → List ℕ
 bytes_of lines = flat_map (λ line. line) lines
 
 -- Lines were written to a sink: each was put once, in their order, up to the first whose put
--- failed; and what is told of the bytes grew by them, or by a front of them where a put failed.
+-- failed; and what is known of the bytes grew by them, or by a front of them where a put failed.
 pub record WritesLines {K : Type 0} (written : K → Option (List ℕ))
     (puts : K → List ℕ → Result (Unit {0}) Failed → K → Type 0) (before : K) (lines : List (List ℕ))
     (result : Result (Unit {0}) Failed) (now : K) : Type 0 where

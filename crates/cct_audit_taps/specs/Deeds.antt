@@ -25,7 +25,7 @@ use Rattle.cct_audit_taps.specs.declared.hoppers.KnownLife.{KnownLife}
 use Rattle.cct_audit_taps.specs.declared.hoppers.KnownHopper.{KnownHopper}
 use Rattle.cct_audit_taps.specs.Taps.{Tap, asks_at, other_answers}
 
--- The serial number that a reply tells.
+-- The serial number that a reply gives.
 abbrev pub serial_deed : Option Reply → Deed
 serial_deed (Some (reply.serial serial)) = Serial serial
 serial_deed y = Nothing
@@ -35,7 +35,7 @@ abbrev pub status_deed : Option Reply → Deed
 status_deed (Some (reply.status counter remaining paid unpaid)) = Status counter remaining paid
 status_deed y = Nothing
 
--- The life count that a reply tells.
+-- The life count that a reply gives.
 abbrev pub life_deed : Option Reply → Deed
 life_deed (Some (reply.life count)) = Life count
 life_deed y = Nothing
@@ -111,7 +111,7 @@ asked_since taken count (Some k) = Some (record {
   has_begun = if taken then true else k.has_begun;
 })
 
--- How many coins fell at least, where it told that it paid so many of a payout.
+-- How many coins fell at least, where it reported that it paid so many of a payout.
 abbrev pub least_of : Bool → ℕ → ℕ → ℕ
 least_of begun paid least = if begun then greater least paid else least
 
@@ -194,7 +194,7 @@ abbrev pub broken_enable : ℕ → ℕ → Option ℕ → List Said
 broken_enable addr number None = []
 broken_enable addr number (Some first) = Broken addr premise.Enable first number ∷ []
 
--- A rise of the life count fits what could fall, and what was told to have fallen.
+-- A rise of the life count fits what could fall, and what was reported as fallen.
 abbrev pub rise_fits : ℕ → KnownLife → Bool
 rise_fits rise k = nat_le rise k.most && nat_le k.least rise
 

@@ -25,12 +25,12 @@ use Rattle.cct_audit_taps.specs.declared.signs.Sign.TheVariants.{Events, Mask, M
 use Rattle.cct_audit_taps.specs.declared.signs.Sign.TheVariants.{ResetTaken, OtherAnswers, Nothing}
 use Rattle.cct_audit_taps.specs.Taps.{Tap, asks_at, other_answers}
 
--- The events that a reply tells.
+-- The events that a reply gives.
 abbrev pub events_sign : Option Reply → Sign
 events_sign (Some (reply.credits c)) = Events c
 events_sign y = Nothing
 
--- The inhibit mask that a reply tells.
+-- The inhibit mask that a reply gives.
 abbrev pub mask_sign : Option Reply → Sign
 mask_sign (Some (reply.mask mask)) = Mask mask
 mask_sign y = Nothing

@@ -37,7 +37,7 @@ asks_nothing d piece one other = by_asked (asks_of d piece) refl
       | inr all ↦ absurd (one all.0)
     ]
 
--- what a hopper remembers, by all that its replies tell
+-- what a hopper remembers, by all that its replies show
 abbrev remembered_by : DeviceSetup → List Met → State → hoppers.Memory
 remembered_by d past s = record {
   life = life_count d.serial (hoppers.start_of d.body) past;

@@ -83,7 +83,7 @@ pub place_there : (devices : List Device) (setup : Setup) (addr : ℕ) → setup
 place_there devices setup addr order there =
     place_known (position (is_at addr) devices) devices setup addr order there refl
 
--- the device at an index represents what the history tells
+-- the device at an index represents what the history shows
 pub one_lived : (devices : List Device) (i : ℕ) (y : Device) (addr : ℕ) (history : DeviceSetup → List Met) → position (is_at addr) devices ≡ Some i → y ≡ get_or devices i y
     → All (Stands history) devices → Lived y (history (setup_in y))
 one_lived devices i y addr history found is stand =
@@ -150,7 +150,7 @@ pub effect_back : (had_effect : Bool) → is_done (of_effect had_effect) ≡ had
 effect_back true = refl
 effect_back false = refl
 
--- what happened to a device, with what became of it told in another form
+-- what happened to a device, with what became of it said in another form
 pub told_as : {B : Type 0} (setup : Setup) (past : List Entry) (addr : ℕ) (what : Happening) (outcome : Outcome)
     (new : Bus) (form : Outcome → B) (said : B) (is : DeviceSetup → B) → said ≡ form outcome
     → ((d : DeviceSetup) → form (becomes what d.serial (met d past)) ≡ is d) → Befalls setup past addr what outcome new

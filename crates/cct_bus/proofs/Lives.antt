@@ -1,4 +1,4 @@
--- A device stands for something that it met, whatever else it meets.
+-- A device represents something that it met, whatever else it meets.
 use Rattle.std.proofs.Common.{◌≡◌, ℕ, ◌≤◌, List, [], ◌∷◌, length, ap, refl, subst}
 use Rattle.std.specs.Prelude.{unwrap_or}
 use Rattle.std.proofs.Math.Bool.{Bool-set}

@@ -20,8 +20,8 @@ abbrev pub setup_of : Bus → Setup
 setup_of bus = bus.setup.now
 
 -- A bus represents a transcript, newest entry first: its setup is sound, its devices are those of
--- its setup in rising order of address, each met what the transcript tells of it, the fault that is
--- set is the pending one, and whether the last exchange was forged is what the transcript tells.
+-- its setup in rising order of address, each met what the transcript shows of it, the fault that is
+-- set is the pending one, and whether the last exchange was forged is what the transcript shows.
 pub record StandsFor (bus : Bus) (past : List Entry) : Type 0 where
   pub sound : IsSoundSetup (setup_of bus)
   pub order : setups_in bus.devices.items ≡ by_address (setup_of bus).devices
@@ -39,7 +39,7 @@ Exchanges old sent heard new =
     × StandsFor new (entry.Wire addr sent heard ∷ past))
 
 -- What something that happens to the device at an address does on a bus: it becomes what it does of
--- one that met what the transcript tells, and the transcript goes on by its entry.
+-- one that met what the transcript shows, and the transcript goes on by its entry.
 abbrev pub Befalls : Setup → List Entry → ℕ → Happening → Outcome → Bus → Type 0
 Befalls setup past addr what outcome new =
     OfKnowing what (device_at setup.devices addr)

@@ -17,6 +17,6 @@ setups_in devices = map setup_in devices
 abbrev pub Lived : Device → List Met → Type 0
 Lived device past = StandsFor device.body (setup_in device) past
 
--- A device on the wire met what a history tells of its setup.
+-- A device on the wire met what a history shows of its setup.
 abbrev pub Stands : (DeviceSetup → List Met) → Device → Type 0
 Stands history device = Lived device (history (setup_in device))

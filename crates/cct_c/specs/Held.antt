@@ -64,7 +64,7 @@ put_code (Acceptor a) place past = inserted_code (acceptor.inserted past place)
 put_code (Hopper h) place past = WRONG_FAMILY
 put_code (Bill b) place past = if holds past place then OK else NOTHING
 
--- The sorter path that is told of a coin, or what stood there before where none was taken.
+-- The sorter path that is reported for a coin, or what stood there before where none was taken.
 abbrev pub path_told : Held → ℕ → List Met → ℕ → ℕ
 path_told (Settings s) place past before = before
 path_told (Acceptor a) place past before = inserted_path (acceptor.inserted past place) before

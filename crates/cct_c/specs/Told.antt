@@ -1,4 +1,4 @@
--- What a program in another language is told of a reply.
+-- What a program in another language learns of a reply.
 use Rattle.std.specs.Prelude.{◌≡◌, ℕ, ◌≤◌, List, [], ◌∷◌, flat_map, length, take, Option, Some}
 use Rattle.std.specs.Prelude.{None, ⊤}
 use Rattle.cct_model_wire.specs.Exchange.{after_echo, got}
@@ -48,7 +48,7 @@ reply_answer (Some kind) None addr sent heard = BAD_FORM
 reply_answer (Some kind) (Some form) addr sent heard =
     rest_answer kind form addr (after_echo sent heard)
 
--- The fields of the program's struct that belong to the reply tell it. A refusal is reported by the
+-- The fields of the program's struct that belong to the reply show it. A refusal is reported by the
 -- answer of the call alone.
 abbrev pub Tells : Reply → LhReply → Type 0
 Tells ack told = ⊤

@@ -11,7 +11,7 @@ use Rattle.cct_devices.specs.declared.machine.Machine.{Machine}
 abbrev pub setup_of : Machine → Setup
 setup_of machine = buses.setup_of machine.bus
 
--- Devices on a line stand for a transcript, newest entry first, and for the bytes of a message that
+-- Devices on a line represent a transcript, newest entry first, and the bytes of a message that
 -- isn't whole yet.
 pub record StandsFor (machine : Machine) (past : List Entry) (bytes : List ℕ) : Type 0 where
   pub bus : buses.StandsFor machine.bus past

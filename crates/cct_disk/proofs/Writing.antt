@@ -60,7 +60,7 @@ module _ (at : ℕ) (bytes : List ℕ) (old new : MemoryDisk) where
     fails_torn (Err _) by_name by_room =
         ⊎_elim (λ lacks. untouched (by_room lacks)) (λ has. torn (by_name has)) lacks_or_not
 
--- a call that never fails: none is told to, and there is room
+-- a call that never fails: none is set to fail, and there is room
 sure : (old : MemoryDisk) (many calls bytes : ℕ) → Spent old calls bytes → calls < sure_calls → bytes + many ≤ sure_bytes
     → FailsNext old.fails old.calls ⊎ LacksRoom old many → ⊥
 sure old many calls bytes spent few short (inl told) =

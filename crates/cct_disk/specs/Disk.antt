@@ -42,7 +42,7 @@ abbrev pub Elapses : {D : Type 0} → (D → ℕ) → (D → ℕ → List ℕ �
 Elapses moment left_since may_leave old new =
     ClockGoesOn (moment old) (moment new) (left_since old) (left_since new) (may_leave new)
 
--- A disk goes on to tell or not to tell its bytes, and to be honest or not, and has the same size;
+-- A disk goes on to show or not to show its bytes, and to be honest or not, and has the same size;
 -- no power was cut.
 pub record GoesOn {D : Type 0} (size : D → ℕ) (honest : D → Bool) (seen : D → Option (List ℕ))
     (cuts : D → ℕ)
@@ -52,7 +52,7 @@ pub record GoesOn {D : Type 0} (size : D → ℕ) (honest : D → Bool) (seen : 
   pub same_telling : is_some (seen new) ≡ is_some (seen old)
   pub same_cuts : cuts new ≡ cuts old
 
--- A disk goes on to tell or not to tell its bytes, and to be honest or not, and has the same size;
+-- A disk goes on to show or not to show its bytes, and to be honest or not, and has the same size;
 -- its power may have been cut.
 pub record Outlasts {D : Type 0} (size : D → ℕ) (honest : D → Bool) (seen : D → Option (List ℕ))
     (cuts : D → ℕ)

@@ -46,7 +46,7 @@ abbrev IsUntold : Option (List ℕ) → Type 0
 IsUntold None = Unit
 IsUntold (Some bytes) = ⊥
 
--- a disk that doesn't tell its bytes has no bytes of another length
+-- a disk that doesn't show its bytes has no bytes of another length
 pub untold_fits : (size : ℕ) (bytes : List ℕ) → None ≡ Some bytes → length bytes ≡ size
 untold_fits size bytes is = absurd (subst IsUntold is tt)
 

@@ -33,7 +33,7 @@ blank n fails = record {
 abbrev pub LacksRoom : MemoryDisk → ℕ → Type 0
 LacksRoom disk more = PassesRoom disk.changes (length disk.content.replaced) more
 
--- no call is told to fail, and none has failed; and since it was ready it took at most so many
+-- no call is set to fail, and none has failed; and since it was ready it took at most so many
 -- changes, which replaced at most so many bytes
 pub record Spent (disk : MemoryDisk) (calls bytes : ℕ) : Type 0 where
   pub told_none : disk.fails ≡ []
@@ -88,7 +88,7 @@ pub record Answers {T E : Type 0} (Fails : Type 0) (After : MemoryDisk → Type 
   pub after_fault : OnErr result (new ≡ after_fault old)
   pub cause : HasCause old.faults new.faults result
 
--- What a write answers that tears its range where it is told to fail, and what it leaves. Where it
+-- What a write answers that tears its range where it is set to fail, and what it leaves. Where it
 -- lacks room it only counts the fault.
 pub record AnswersTorn {T E : Type 0} (choice at : ℕ) (bytes : List ℕ) (old new : MemoryDisk)
     (result : Result T E)

@@ -1,4 +1,4 @@
--- The value as which contracts see a disk in memory that tears a write that is told to fail.
+-- The value as which contracts see a disk in memory that tears a write which is set to fail.
 use Rattle.std.specs.Prelude.{◌≡◌, ℕ, true, Some, length}
 use Rattle.cct_disk.specs.Disk.{GoesOn, Outlasts}
 use Rattle.cct_disk.specs.Memory.{MemoryDisk, IsAfterCut}

@@ -1,4 +1,4 @@
--- A disk that notes calls, as it stands for its caller.
+-- A disk that notes calls, as its caller sees it.
 use Rattle.std.specs.Prelude.{◌≡◌, ◌≤◌, ℕ, true, Some, None, Option, List, [], ◌∷◌, length}
 use mathlib.Core.Path.{refl, sym, ap, subst}
 use mathlib.Core.Logic.{inl, inr}

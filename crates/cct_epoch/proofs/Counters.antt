@@ -5,7 +5,7 @@ use Rattle.std.proofs.lemmas.Bool.Decides.{nat_tests}
 use Rattle.cct_model.specs.Reading.{distance}
 use Rattle.cct_model.specs.Acceptor.{counter}
 
--- the counters tell no more events than came
+-- the counters show no more events than came
 pub distance_most : (new old : ℕ) → distance (counter old) (counter (new + old)) ≤ new
 unfolding distance
 distance_most new old = grind (arith, nat_tests)
@@ -20,7 +20,7 @@ pub distance_modulo : (new old : ℕ) → distance (counter old) (counter (new +
 unfolding distance
 distance_modulo new old = grind (arith, nat_tests)
 
--- counters that tell no event are the same
+-- counters that show no event are the same
 pub counter_same : (new old : ℕ) → distance (counter old) (counter (new + old)) ≡ 0 → counter old ≡ counter (new + old)
 unfolding distance
 counter_same new old none = grind (arith, nat_tests)

@@ -1,4 +1,4 @@
--- Whether a piece is a message, told by its length, its second byte and its last.
+-- Whether a piece is a message, given by its length, its second byte and its last.
 use Rattle.std.proofs.Common.{◌≡◌, ◌≢◌, ℕ, suc, ◌+◌, ◌-◌, ◌*◌, ◌%◌, ◌==◌, if◌then◌else◌, ◌<◌, ◌≤◌, ◌&&◌, Bool, true, false, List, [], ◌∷◌, length, take, slice_index, slice_range, sum, refl, sym, ap, ◌∙◌, Some, None, arith, cond, eq-eqb}
 use Rattle.std.proofs.Math.Seq.{take-length}
 use Rattle.std.proofs.lemmas.List.Sums.{sum_by_more}
@@ -69,7 +69,7 @@ none_length Crc (to ∷ said ∷ low ∷ header ∷ rest) differ = first_fails _
 too_many : (said : ℕ) (rest : List ℕ) → 256 < length rest → length_agrees said rest ≡ false
 too_many said rest long = grind (arith, nat_tests)
 
--- nor is one of more bytes than the second can tell
+-- nor is one of more bytes than the second can say
 pub none_many : (kind : CheckKind) (p : List ℕ) → 260 < length p → message kind p ≡ None
 unfolding message
 none_many Simple [] long = refl
@@ -83,7 +83,7 @@ none_many Crc (to ∷ said ∷ []) long = refl
 none_many Crc (to ∷ said ∷ low ∷ []) long = refl
 none_many Crc (to ∷ said ∷ low ∷ header ∷ rest) long = first_fails _ _ _ _ (too_many said rest (omega arith))
 
--- what the test of a check tells
+-- what the test of a check shows
 faultless : (want got : ℕ) (fault : FrameFault) → (if want == got then None else Some fault) ≡ None → want ≡ got
 faultless want got fault e = grind (arith, nat_tests)
 

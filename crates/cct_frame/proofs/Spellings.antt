@@ -1,4 +1,4 @@
--- A message and the piece that spells it stand for one another.
+-- A message and the piece that spells it represent one another.
 use Rattle.std.proofs.Common.{◌≡◌, ◌≢◌, ◌↔◌, ℕ, suc, ◌+◌, ◌-◌, ◌*◌, ◌/◌, ◌%◌, ◌<◌, ◌≤◌, ◌&&◌, Bool, true, false, eqb, List, [], ◌∷◌, ◌++◌, length, take, slice_index, sum, refl, sym, ap, ◌∙◌, Option, Some, None, IsSome, arith, cond, eq-eqb}
 use Rattle.std.specs.List.{All}
 use Rattle.std.proofs.lemmas.Bool.{eqb-true}
@@ -52,7 +52,7 @@ last_apart : (rest : List ℕ) (said : ℕ) → length rest ≡ said + 1 → res
 last_apart rest said e =
     sym (take_all (said + 1) rest (omega arith)) ∙ take_more rest said 0 (omega arith)
 
--- what the places of a piece tell of it as a spelling, where its check holds
+-- what the places of a piece show of it as a spelling, where its check holds
 simple_spelled : (to from header last : ℕ) (body : List ℕ) → last < 256 → sum (to ∷ length body ∷ from ∷ header ∷ (body ++ last ∷ [])) % 256 ≡ 0
     → to ∷ length body ∷ from ∷ header ∷ (body ++ last ∷ []) ≡ spelling Simple (record { to = to; from = Some from; header = header; body = body })
 unfolding spelling

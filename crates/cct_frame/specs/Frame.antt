@@ -1,4 +1,4 @@
--- Frames: what a view of a message says, what is told of a piece that is none, and what a check
+-- Frames: what a view of a message says, what is reported of a piece that is none, and what a check
 -- carries of a message.
 use Rattle.std.specs.Prelude.{ℕ, ◌+◌, ◌-◌, ◌*◌, ◌%◌, ◌==◌, nat_lt, List, ◌++◌, length, take, drop}
 use Rattle.std.specs.Prelude.{sum, if◌then◌else◌, Option, Some, None, slice_index, slice_range}

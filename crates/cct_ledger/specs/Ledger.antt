@@ -24,8 +24,8 @@ available_of ledger = ledger.available
 abbrev pub reserved_of : Ledger → ℕ
 reserved_of ledger = ledger.reserved
 
--- A ledger stands for these records, newest first, and for so much that is reserved beside them:
--- its setup is sound, it counts the records and keeps the open orders, its sums are those over the
+-- A ledger represents these records, newest first, and so much that is reserved beside them: its
+-- setup is sound, it counts the records and keeps the open orders, its sums are those over the
 -- records, and what is available, reserved, paid and sold is together the value of all coins
 -- posted.
 pub record StandsFor (ledger : Ledger) (before : List Record) (beside : ℕ) : Type 0 where

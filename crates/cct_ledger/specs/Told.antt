@@ -1,4 +1,4 @@
--- What a ledger tells, by the records that it took before, newest first, and by how much is
+-- What a ledger reports, by the records that it took before, newest first, and by how much is
 -- reserved beside them.
 use Rattle.std.specs.Prelude.{ℕ, ◌+◌, Bool, not, List}
 use Rattle.cct_model.specs.terms.device.Setup.{Setup}

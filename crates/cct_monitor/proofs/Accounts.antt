@@ -169,7 +169,7 @@ one_ends a = by_family a.watch.family
     by_family family.Hopper = refl
     by_family family.HopperPremises = refl
 
--- what is told of one
+-- what is reported of one
 one_heard : (a : Account) → heard_as (watched_as a) ≡ heard_of a
 one_heard a =
     ap (λ (fam : Family). record {

@@ -25,7 +25,7 @@ use Rattle.cct_monitor.specs.Watches.{Account, Came, Watch, accounts, finally_of
 use Rattle.cct_monitor.proofs.Accounts.{all_end, all_heard, put_kept, tap_kept, tap_says}
 use Rattle.cct_monitor.proofs.Insertions.{any_put, put_apart, put_more}
 
--- a device of which no tap told
+-- a device that no tap showed
 no_look : (n : ℕ) → acceptor_after (replicate n Nothing) ≡ no_tap
 no_look zero = refl
 no_look (suc n) = no_look n

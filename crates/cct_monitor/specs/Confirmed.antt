@@ -27,7 +27,7 @@ has_mask (Masked mask) = not (mask == 0)
 has_mask Set = false
 has_mask Nothing = false
 
--- A span is confirmed: no setting is between its readings, their event counters tell a whole, and a
+-- A span is confirmed: no setting is between its readings, their event counters show a whole, and a
 -- tap of its window shows a mask other than 0.
 abbrev pub is_confirmed : Span → Bool
 is_confirmed span = is_whole span && list_any has_mask (window span.last.after)

@@ -164,7 +164,7 @@ family_of (Premises money known) = family.Premises money
 family_of (Hopper life) = family.Hopper
 family_of (HopperPremises known) = family.HopperPremises
 
--- What is told of a watched device.
+-- What is reported of a watched device.
 abbrev pub heard_as : Watched → Heard
 heard_as w = record { addr = w.addr; kind = w.kind; family = family_of w.kept; tally = w.tally }
 

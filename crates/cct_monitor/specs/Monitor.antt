@@ -47,7 +47,7 @@ watched_as a = record {
   kept = kept_by a.watch.family a;
 }
 
--- What is told of a watched device: how many taps were for it.
+-- What is reported of a watched device: how many taps were for it.
 abbrev pub heard_of : Account → Heard
 heard_of a = record {
   addr = a.watch.addr;

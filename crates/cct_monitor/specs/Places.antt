@@ -1,4 +1,4 @@
--- Watched devices, told apart by their addresses.
+-- Watched devices, each known by its address.
 use Rattle.std.specs.Prelude.{ℕ, ◌==◌, ◌&&◌, not, nat_le, Bool, true, List, [], ◌∷◌, if◌then◌else◌}
 use Rattle.std.specs.List.{list_any}
 use Rattle.cct_monitor.specs.declared.watched.Watched.{Watched}

@@ -63,12 +63,12 @@ abbrev pub is_set : Shown → Bool
 is_set Set = true
 is_set s = false
 
--- Event counters tell a whole: the last isn't 0 unless the first is, and they tell no more events
+-- Event counters show a whole: the last isn't 0 unless the first is, and they show no more events
 -- than the credit buffer keeps.
 abbrev pub are_near : ℕ → ℕ → Bool
 are_near first last = (not (last == 0) || (first == 0)) && nat_le (distance first last) EVENTS
 
--- No setting came between the readings of a span, and their event counters tell a whole.
+-- No setting came between the readings of a span, and their event counters show a whole.
 abbrev pub is_whole : Span → Bool
 is_whole span =
     not (list_any is_set span.first.after)
@@ -92,7 +92,7 @@ abbrev pub doubted : ℕ → Span → Said
 doubted addr span = Doubt addr span.first.number span.last.number
 
 -- The coins of a span: those among the newest events of its last reading, as many as the event
--- counters tell, oldest first.
+-- counters show, oldest first.
 abbrev pub coins_of : Span → List Coin
 coins_of span = posted_of (distance span.first.credits.counter span.last.credits.counter)
     span.last.credits.pairs

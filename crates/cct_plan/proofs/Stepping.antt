@@ -63,7 +63,7 @@ of_none a = record {
       (λ none. inr ([], record { within = tt; pays = sym (eqb-true a 0 none) }, refl)) (λ _. inl refl);
 }
 
--- A row more leaves what the others tell.
+-- A row more leaves what the others show.
 told_same : (old new : List ℕ) (many k a : ℕ) → ((i : ℕ) → i < many * ROW → slice_index new i ≡ slice_index old i)
     → k ≤ many → a < ROW → least_in old k a ≡ least_in new k a
 told_same old new many zero a same few within = refl

@@ -48,7 +48,7 @@ pub record IsGreatest (t : Tray) (later : ℕ → ℕ) (a n c : ℕ) : Type 0 wh
   pub meets : Meets t later a n c
   pub greatest : (o : ℕ) → o ≤ most_of t → Meets t later a n o → o ≤ c
 
--- What the table tells of so many of the last trays. Row k is that of the last k + 1 trays; of none
+-- What the table shows of so many of the last trays. Row k is that of the last k + 1 trays; of none
 -- just the amount 0 is paid.
 abbrev pub least_in : List ℕ → ℕ → ℕ → ℕ
 least_in cells zero a = if a == 0 then 0 else FAR

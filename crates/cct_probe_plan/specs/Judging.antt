@@ -87,7 +87,7 @@ abbrev pub is_once : Premise → Bool
 is_once (premise.Common common.Once) = true
 is_once this = false
 
--- One of two equal messages, but where a premise is tried that tells them; else all bytes.
+-- One of two equal messages, but where a premise is tried that shows them; else all bytes.
 abbrev pub single : Premise → List ℕ → List ℕ
 single tried bytes = if is_twice bytes && not (is_once tried) then first_part bytes else bytes
 
@@ -166,12 +166,12 @@ abbrev pub counter_unless : ℕ → Option ℕ → Option ℕ
 counter_unless awaited None = None
 counter_unless awaited (Some counter) = if counter == awaited then None else Some counter
 
--- The event counter that data tell.
+-- The event counter that data show.
 abbrev pub counter_of : Option (List ℕ) → Option ℕ
 counter_of None = None
 counter_of (Some bytes) = counter_in bytes
 
--- The event counter that a reply tells, if so many events more than those kept didn't come yet.
+-- The event counter that a reply gives, if so many events more than those kept didn't come yet.
 abbrev pub counter_before : ℕ → DeviceSetup → Premise → Memory → Option (List ℕ) → Option ℕ
 counter_before more d tried memory None = None
 counter_before more d tried memory (Some bytes) =

@@ -14,7 +14,7 @@ use Rattle.cct_probe_plan.specs.Closing.{is_for}
 use Rattle.cct_probe_plan.specs.Words.{premise_word}
 
 -- A premise of a device is one that a trial can try there. That replies are in time and of the
--- right form each exchange tells; only coins come six at a time, and only bills are routed.
+-- right form each exchange shows; only coins come six at a time, and only bills are routed.
 abbrev pub is_tried_at : DeviceBody → Premise → Bool
 is_tried_at device (premise.Common common.Prompt) = false
 is_tried_at device (premise.Common common.Form) = false

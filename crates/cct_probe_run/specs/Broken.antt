@@ -1,4 +1,4 @@
--- What was told broken, and which promises rest on it.
+-- What was reported as broken, and which promises rest on it.
 use Rattle.std.specs.Prelude.{◌||◌, Bool, true, false}
 use Rattle.cct_probe_plan.specs.declared.premise.Premise.{Premise}
 use Rattle.cct_probe_plan.specs.declared.premise.Promise.{Promise}

@@ -199,13 +199,13 @@ module _ {L K : Type 0} (reads : L → Option (List ℕ) → L → Type 0)
   RoundsCame device trial kept later before after (done.Untried reason) =
       TrialLeft device trial before after reason
 
-  -- A premise was told broken, by one line.
+  -- A premise was reported as broken, by one line.
   abbrev pub TellsThat : Premise → Bench L K → Bench L K → Type 0
   TellsThat this before after = (one : Tells reads writes puts setup trials before after)
       × (is : begins_broken one.piece ≡ true) × ((one.shows is).this ≡ this)
 
-  -- What came of a trial: all of it was done and right; or a premise was told broken; or it wasn't
-  -- begun, or can't go on.
+  -- What came of a trial: all of it was done and right; or a premise was reported as broken; or it
+  -- wasn't begun, or can't go on.
   abbrev pub TrialCame : DeviceSetup → Trial → Bench L K → Bench L K → Done → Type 0
   TrialCame device trial before after done.On = (kept : Memory) × (later : Memory)
       × (mid : Bench L K) × Rests reads writes puts setup before mid
@@ -216,7 +216,8 @@ module _ {L K : Type 0} (reads : L → Option (List ℕ) → L → Type 0)
       IsLacking before.leave before.asked trial.need reason
       ⊎ TrialLeft device trial before after reason
 
-  -- It is concluded: a premise that is broken is told. The answer is whether the device answered.
+  -- It is concluded: a premise that is broken is reported. The answer is whether the device
+  -- answered.
   abbrev pub Concludes : Done → Bench L K → Bench L K → Bool → Type 0
   Concludes done.On before after answered = (after ≡ before) × (answered ≡ true)
   Concludes (done.Broken this) before after answered = TellsThat this before after
@@ -239,7 +240,7 @@ module _ {L K : Type 0} (reads : L → Option (List ℕ) → L → Type 0)
   TryCame device trial first last answered = (came : Done) × CameIn device trial came first last
       × (answered ≡ false → came ≡ done.Broken (premise.Common common.Answers))
 
-  -- A device doesn't answer, as was told broken of it.
+  -- A device doesn't answer, which was reported as broken.
   abbrev pub IsAbsent : DeviceSetup → Bench L K → Bench L K → Type 0
   IsAbsent device first last = (other : Trial) × Contains trials other
       × CameIn device other (done.Broken (premise.Common common.Answers)) first last
@@ -249,7 +250,7 @@ module _ {L K : Type 0} (reads : L → Option (List ℕ) → L → Type 0)
   WasTried device trial first last =
       Came device trial first last ⊎ IsAbsent device first last
 
-  -- A device answers as far as is known, or it doesn't, as was told.
+  -- A device answers as far as is known, or it doesn't, as was reported.
   abbrev pub IsHere : DeviceSetup → Presence → Bench L K → Bench L K → Type 0
   IsHere device presence.Absent first last = IsAbsent device first last
   IsHere device presence.Gone first last = IsAbsent device first last

@@ -119,7 +119,7 @@ pub record Shows (setup : Setup) (trials : List Trial) (tried this : Premise) (s
   pub bytes : IsSaid said setup device round sent
   pub premise : IsTried tried this
 
--- Bytes tell a premise broken: they name a trial of the plan that may show it, and end with an
+-- Bytes report a premise as broken: they name a trial of the plan that may show it, and end with an
 -- exchange, which is a row of this trial.
 pub record TellsBroken (setup : Setup) (trials : List Trial) (piece sent heard : List ℕ) : Type 0
   where
@@ -168,7 +168,7 @@ module _ {L K : Type 0} (reads : L → Option (List ℕ) → L → Type 0)
     pub out : after.out ≡ before.out
 
   -- Something was put: if it begins as a line `broken` does, it shows the last exchange; and it
-  -- says that a promise holds only where no premise that it rests on was told broken.
+  -- says that a promise holds only where no premise that it rests on was reported as broken.
   pub record Tells (before after : Bench L K) : Type 0 where
     pub piece : List ℕ
     pub result : Result (Unit {0}) Failed

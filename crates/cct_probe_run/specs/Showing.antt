@@ -22,7 +22,7 @@ ShowsIf setup trials tried sent done.On = ⊤
 ShowsIf setup trials tried sent (done.Broken this) = Shows setup trials tried this sent
 ShowsIf setup trials tried sent (done.Untried why) = ⊤
 
--- This came, or a reply that comes late was told broken.
+-- This came, or a reply that comes late was reported as broken.
 abbrev pub IsOrLate : Done → Done → Type 0
 IsOrLate silent came =
     (came ≡ silent) ⊎ (came ≡ done.Broken (premise.Common common.Prompt))

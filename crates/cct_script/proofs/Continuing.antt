@@ -193,7 +193,7 @@ module _ {Stage Read Script : Type 0} {k : Kind Stage Read Script} (l : Lawful k
       byte_closes number stage kind.Trailing held left some (λ line. rw over refl)
       (λ rest more. let a : ltb 0 (length rest) ≡ true = grind (arith, nat_tests) in rw (over, a) refl)
 
-  -- a line too long, told by its first bytes
+  -- a line too long, given by its first bytes
   long_line : (number : ℕ) (stage : Stage) (line : List ℕ) → k.is_over stage ≡ false → number ≤ 1048576 → 1200 < length line
       → line_by number stage line ≡ k.refuses kind.Long
   unfolding most_lines
@@ -319,7 +319,7 @@ module _ {Stage Read Script : Type 0} {k : Kind Stage Read Script} (l : Lawful k
           came.2 (to_come left) ∙ l.refused number stage why _,
         )
 
-  -- what an answer tells after the line `end`: nothing follows, or the script stops
+  -- what an answer shows after the line `end`: nothing follows, or the script stops
   abbrev pub Ends : Standing → Option (List ℕ) → Option (List ℕ) → ℕ → Stage → Result (Unit {0}) ScriptStop → Type 0
   Ends old left_before left number stage (Ok done) =
       WithMoreTaken old.held left_before left (IsClosedIn k number stage None left)

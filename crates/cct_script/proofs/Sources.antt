@@ -1,4 +1,4 @@
--- What a source tells goes on from call to call.
+-- What a source shows goes on from call to call.
 use Rattle.std.proofs.Common.{◌≡◌, ◌≤◌, ℕ, List, ◌++◌, Option, Some, None, sym, ◌∙◌, arith}
 use Rattle.std.specs.Io.KnownBytes.{Consumes}
 use Rattle.std.proofs.Math.Nat.{le_trans}
@@ -6,7 +6,7 @@ use Rattle.cct_edge.specs.Bytes.{Serves}
 use Rattle.cct_edge.proofs.Chains.{Rose-earlier}
 use Rattle.cct_script.specs.Source.{AreTold, to_come}
 
--- the bytes taken and those still to come are those that a source told
+-- the bytes taken and those still to come are those that a source showed
 pub told_by : (left0 left : Option (List ℕ)) (taken : List ℕ) → Consumes left0 left taken
     → AreTold left0 (taken ++ to_come left)
 told_by None left taken h = tt

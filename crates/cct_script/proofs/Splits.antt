@@ -1,4 +1,4 @@
--- A list cut at the elements that pass a test, told by where the first of them stands.
+-- A list cut at the elements that pass a test, given by where the first of them stands.
 use Rattle.std.proofs.Common.{◌≡◌, ℕ, suc, ◌+◌, ◌<◌, ◌≤◌, Bool, true, false, List, [], ◌∷◌, ◌++◌, length, get_or}
 use Rattle.std.proofs.Common.{take, drop, Some, None, refl, ap, sym, ◌∙◌, arith, cond, ltb}
 use Rattle.std.specs.List.{slice_split, onto_first, position, position_or_len, All}

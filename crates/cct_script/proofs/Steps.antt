@@ -1,4 +1,4 @@
--- A step line, told by the groups of its words.
+-- A step line, given by the groups of its words.
 use Rattle.std.proofs.Common.{◌≡◌, ◌∙◌, ℕ, Bool, true, false, List, ◌∷◌, Result, Ok, Err, ap, refl, subst, sym}
 use Rattle.std.specs.Prelude.{MatchResult, bytes_eq, codes}
 use Rattle.std.specs.Cmp.Lexicographic.{bytes_decides}

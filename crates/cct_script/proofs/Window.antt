@@ -48,7 +48,8 @@ pub length-held : (bytes : List ℕ) (start end : ℕ) → start ≤ end → end
 length-held bytes start end ordered fits =
     length-take-le (end - start) (drop start bytes) (omega (arith, length-drop start bytes))
 
--- what a search for a line keeps: the source gave what came, and told of it as before; a fault came only by its count
+-- what a search for a line keeps: the source gave what came, and showed its bytes, or not, as
+-- before; a fault came only by its count
 module _ {S : Type 0} (left : S → Option (List ℕ)) (faults : S → ℕ) where
   pub record Seeks (held0 held : List ℕ) (source0 source : S) : Type 0 where
     pub fills : Fills held0 held (left source0) (left source)

@@ -6,11 +6,11 @@ abbrev pub to_come : Option (List ℕ) → List ℕ
 to_come None = []
 to_come (Some bytes) = bytes
 
--- These are the bytes that a source tells, where it tells any.
+-- These are the bytes that a source shows, where it shows any.
 abbrev pub AreTold : Option (List ℕ) → List ℕ → Type 0
 AreTold None bytes = ⊤
 AreTold (Some told) bytes = bytes ≡ told
 
--- There are bytes, those that a source says where it tells any, and this holds of them.
+-- There are bytes, those that a source says where it shows any, and this holds of them.
 abbrev pub OfBytes : Option (List ℕ) → (List ℕ → Type 0) → Type 0
 OfBytes left P = (bytes : List ℕ) × AreTold left bytes × P bytes

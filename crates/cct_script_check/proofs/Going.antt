@@ -81,7 +81,7 @@ module _ {K : Type 0} (written : K → Option (List ℕ)) (puts : K → List ℕ
       }
 
   module _ (out0 out out1 : K) where
-    -- a line that is refused, and told
+    -- a line that is refused, and reported
     pub going_left_out : (left0 left left1 : Option (List ℕ)) (held rest : List ℕ) (number : ℕ) (stage : Stage)
         (why : LineKind) (end : ProofEnd) → Going left0 left held number stage end (Wrote written puts out0 out)
         → WithMoreTaken held left left1 (λ bytes. GoesOnIn of_proof number stage bytes (left_out why) rest)

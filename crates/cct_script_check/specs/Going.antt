@@ -25,8 +25,8 @@ Marks Clean told = told ≡ []
 Marks Told told = told ≢ []
 Marks how told = ⊥
 
--- What was taken and told so far: whatever follows, the refusals of the script are those told and
--- those of the lines from here on; and the lines that tell them were written.
+-- What was taken and reported so far: whatever follows, the refusals of the script are those
+-- reported and those of the lines from here on; and the lines that report them were written.
 pub record Going (left0 left : Option (List ℕ)) (held : List ℕ) (number : ℕ) (stage : Stage)
     (end : ProofEnd)
     (Written : List Entry → Type 0) : Type 0 where

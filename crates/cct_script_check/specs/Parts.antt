@@ -57,7 +57,7 @@ abbrev pub is_refused : Looked → Bool
 is_refused (looked.Refused why) = true
 is_refused l = false
 
--- The lines that tell a line of this number that was looked at.
+-- The lines that report a line of this number that was looked at.
 abbrev pub looked_lines : ℕ → Looked → List Entry
 looked_lines number (looked.Refused why) = entry.Line number why ∷ []
 looked_lines number l = []

@@ -97,9 +97,9 @@ pub record AreOfWhole (taken : List ℕ) (told : List Refusal) : Type 0 where
   pub alone : position is_line_feed held ≡ None
   pub says : refusals taken ≡ told ++ refusal_by number (unfinished number stage held)
 
--- What was told of a script of these bytes, of which these were taken, by the end: nothing, since
--- no line is refused; all refusals; those of the lines that stand whole in the bytes taken, where
--- reading failed; or, where writing failed, all of them up to there.
+-- What was reported of a script of these bytes, of which these were taken, by the end: nothing,
+-- since no line is refused; all refusals; those of the lines that stand whole in the bytes taken,
+-- where reading failed; or, where writing failed, all of them up to there.
 abbrev pub ProofEnds : List ℕ → List ℕ → ProofEnd →
     (List Entry → Result (Unit {0}) Failed → Type 0) → Type 0
 ProofEnds bytes taken Clean writes = (refusals bytes ≡ []) × writes [] (Ok tt)

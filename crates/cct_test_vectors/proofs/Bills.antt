@@ -136,8 +136,8 @@ resets_told : all_told banker [] resets ≡ map wanted resets
 unfolding message spelling asker asks_of request_of requests_with common_reply reply_of bill_reply reply_data has_place
 resets_told = refl
 
--- what it tells of itself; what only other devices know, and requests to route with another number of bytes, to all or to
--- another device: it is silent, and holds its bill still
+-- what it says of itself; what only other devices know, and requests to route with another number
+-- of bytes, to all or to another device: it is silent, and holds its bill still
 abbrev others : List Row
 others =
     hears "040201e7008092" "01000400fb"

@@ -128,7 +128,7 @@ disabled_and_reset =
     ∷ hears "030401a7010203014a" "01000305f7"
     ∷ jammed false
     ∷ hears "030001a854" "01030300070000f2"
-    -- What every device tells of itself, and what a hopper refuses or does not know.
+    -- What every device says of itself, and what a hopper refuses or does not know.
     ∷ hears "030001fefe" "01000300fc"
     ∷ hears "030001f507" "010603005061796f757474"
     ∷ hears "030001f606" "010303004d4d4d12"

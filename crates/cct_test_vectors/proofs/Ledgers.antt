@@ -1,4 +1,5 @@
--- What a ledger over one acceptor and one hopper takes, row by row, and what it then tells; and the carry of records.
+-- What a ledger over one acceptor and one hopper takes, row by row, and what it then reports; and
+-- the carry of records.
 use Rattle.std.proofs.Common.{◌≡◌, ℕ, Bool, true, false, List, [], ◌∷◌, reverse, replicate, if◌then◌else◌, refl}
 use Rattle.std.specs.Prelude.{codes}
 use Rattle.cct_model.specs.terms.wire.CheckKind.TheVariants.{Simple}

@@ -7,7 +7,8 @@ use Rattle.cct_edge.specs.declared.fault.Failed.{Failed}
 use Rattle.cct_model_lines.specs.declared.entry.Entry.{Entry}
 use Rattle.cct_model_lines.specs.Text.{line_of, text}
 
--- A line was put once: what is told of the bytes grew by it, or by a front of it if the put failed.
+-- A line was put once: what is known of the bytes grew by it, or by a front of it if the put
+-- failed.
 pub record PutsLine {K : Type 0} (written : K → Option (List ℕ))
     (puts : K → List ℕ → Result (Unit {0}) Failed → K → Type 0) (before : K) (line : List ℕ)
     (result : Result (Unit {0}) Failed) (now : K) : Type 0 where
@@ -28,7 +29,7 @@ Puts {K} puts before (piece ∷ pieces) result now =
     ⊎ ((failed : Failed) × (result ≡ Err failed) × puts before piece (Err failed) now)
 
 -- Entries were written to a sink: the line of each was put once, in their order, up to the first
--- whose put failed; and what is told of the bytes grew by their text, or by a front of it where a
+-- whose put failed; and what is known of the bytes grew by their text, or by a front of it where a
 -- put failed.
 pub record Writes {K : Type 0} (written : K → Option (List ℕ))
     (puts : K → List ℕ → Result (Unit {0}) Failed → K → Type 0) (before : K) (entries : List Entry)

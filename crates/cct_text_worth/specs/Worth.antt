@@ -1,4 +1,4 @@
--- The value that the identification of a coin tells.
+-- The value that the identification of a coin shows.
 use Rattle.std.specs.Prelude.{ℕ, ◌+◌, ◌-◌, ◌*◌, ◌==◌, ◌&&◌, nat_le, not, Bool, List, [], ◌∷◌}
 use Rattle.std.specs.Prelude.{if◌then◌else◌, Option, Some, None}
 use Rattle.cct_model_lines.specs.Grammar.{◌>>=◌}
@@ -51,7 +51,7 @@ is_country first second =
 abbrev pub in_range : ℕ → Option ℕ
 in_range value = if nat_le 1 value && nat_le value 1000000 then Some value else None
 
--- The value that six characters tell: a country, three figures and an issue.
+-- The value that six characters show: a country, three figures and an issue.
 abbrev pub value_told : List ℕ → Option ℕ
 value_told (first ∷ second ∷ a ∷ b ∷ c ∷ issue ∷ []) =
     if is_country first second then figures_told a b c >>= in_range else None

@@ -131,7 +131,7 @@ module _ {D : Type 0} {g : Ghosts D} where
         ),
       )
 
--- what such a report tells
+-- what such a report says
 pub short_plain : (p : Payment) (why : CommandNo) (paid rest : ℕ) (first report : List Entry)
     → first ≡ entry.No (command.Pay p.addr p.id p.count) why ∷ [] → report ≡ first ++ entry.Short paid rest ∷ []
     → (crashes (reverse report) ≡ 0) × (records (reverse report) ≡ []) × (kept_in (reverse report) ≡ [])

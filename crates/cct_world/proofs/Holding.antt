@@ -56,7 +56,7 @@ module _ {D : Type 0} (size : D → ℕ) (honest : D → Bool) (seen : D → Opt
 
   -- over a step that was played
   module _ (Before After : List Entry → Type 0) (old new : D) where
-    -- what its entries tell
+    -- what its entries show
     told_in : (s : Step) (used many : ℕ) (news : List Entry) (played : List Step) (past : List Entry)
         → Outlasts size honest seen cuts given old → LastsIn s size honest seen cuts old new
         → crashes news ≡ crashes_of s → CutsIn s size honest seen cuts cut_to old new

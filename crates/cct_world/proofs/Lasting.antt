@@ -7,7 +7,7 @@ use Rattle.cct_disk.specs.Disk.{IsTrusted}
 use Rattle.cct_disk.specs.Disk.{GoesOn, Outlasts}
 use Rattle.cct_world.specs.Step.{LastsIn, crashes_of}
 
--- of a kind of disk of which is known what each tells
+-- of a kind of disk, of which what each shows is known
 module _ {D : Type 0} (size : D → ℕ) (honest : D → Bool) (seen : D → Option (List ℕ)) (cuts : D → ℕ) where
   pub lasts_here : (disk : D) → Outlasts size honest seen cuts disk disk
   lasts_here disk =

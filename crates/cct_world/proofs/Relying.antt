@@ -10,7 +10,7 @@ use Rattle.cct_world.specs.Machine.{Survives}
 use Rattle.cct_world.specs.Step.{CutsIn, RoseBy, count_after, crashes, crashes_of, crashes_told}
 use Rattle.cct_world.specs.Relying.{IsCrash, IsReliable}
 
--- power cuts that entries tell after others
+-- power cuts that entries report after others
 pub crashes-append : (xs ys : List Entry) → crashes (xs ++ ys) ≡ crashes xs + crashes ys
 crashes-append [] ys = sym (zero-add (crashes ys))
 crashes-append (x ∷ xs) ys =

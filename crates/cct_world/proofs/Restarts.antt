@@ -66,7 +66,7 @@ pub next_counts : (told : List Entry) (was : Bool) (addr : ℕ) (what : Attempt)
 next_counts told was addr what used many is counts =
     counts ∙ ap (λ rs. used + length rs) (sym (ap records is ∙ all_records was addr what))
 
--- and that they tell no power cut, and none as kept
+-- and that they report no power cut, and none as kept
 abbrev IsCalm : List Entry → Type 0
 IsCalm news = (crashes news ≡ 0) × (kept_in news ≡ [])
 

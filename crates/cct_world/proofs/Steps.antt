@@ -157,7 +157,7 @@ module _ {D : Type 0} {g : Ghosts D} where
   NextGoes setup addr host bus past news =
       EntriesOnWire setup past addr news × (hosts.StandsFor host (news ++ past) × wires.StandsFor bus (news ++ past))
 
-  -- an attempt, and what is told of its exchange
+  -- an attempt, and what is reported of its exchange
   attempt_goes : (setup : Setup) (host : Host D g) (bus : Bus) (addr : ℕ) (past : List Entry) (what : Attempt)
       (was : Bool) → was ≡ was_forged (news_of addr what ++ past)
       → EntriesOfNext (heard_after setup past) setup past addr (news_of addr what)

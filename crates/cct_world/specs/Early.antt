@@ -24,7 +24,7 @@ pub record BeforeLoss (steps : List Step) (transcript : List Entry)
   pub so : So first told
 
 -- The entries of the steps before the first power cut are legal at the desk of the operator, and
--- tell none; and where no step is a power cut, they leave this desk.
+-- report none; and where no step is a power cut, they leave this desk.
 abbrev pub LegalBeforeLoss : ℕ → Setup → List Step → List Entry → Desk → Type 0
 LegalBeforeLoss capacity setup steps transcript now =
     BeforeLoss steps transcript (λ first told. (crashes (onto [] told) ≡ 0)

@@ -11,7 +11,7 @@ abbrev pub asked_at : List Entry → Option ℕ
 asked_at (entry.Wire addr sent heard ∷ entries) = Some addr
 asked_at entries = None
 
--- What is told of an exchange at this address, by whether it was forged. Without an exchange
+-- What is reported of an exchange at this address, by whether it was forged. Without an exchange
 -- nothing is reported.
 abbrev pub forged_told : Bool → Option ℕ → List Entry
 forged_told was None = []

@@ -15,7 +15,7 @@ use Rattle.cct_world.specs.World.{StandsFor, disk_of, setup_of, used_of}
 -- What is so after these steps and their past, where one disk was given and became another: what
 -- represents the past does so where that may be relied on; so many records are counted as the past
 -- has; after each power cut among the steps a host started again; and the power of the disk was cut
--- just as often as the past tells.
+-- just as often as the past shows.
 pub record Holds {D : Type 0} (size : D → ℕ) (honest : D → Bool) (seen : D → Option (List ℕ))
     (cuts : D → ℕ)
     (cut_to : D → ℕ → D → Type 0) (Stands : List Entry → Type 0) (setup : Setup) (given now : D)

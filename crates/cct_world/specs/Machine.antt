@@ -78,9 +78,9 @@ module _ {D : Type 0} {g : Ghosts D} where
   abbrev pub HasTrusted : Machine D g → Type 0
   HasTrusted machine = IsTrusted g.honest g.seen (disk_of machine)
 
-  -- A step gives these entries, oldest first, by what is known at the desk and whatever is after
-  -- it, where a record that it puts suits those before it; and the machine goes on by them. A power
-  -- cut does so on a trusted disk.
+  -- A step gives these entries, oldest first, by what is known at the operator's desk and whatever
+  -- is after it, where a record that it puts suits those before it; and the machine goes on by
+  -- them. A power cut does so on a trusted disk.
   abbrev pub Plays : Machine D g → Machine D g → Step → List Entry → Type 0
   Plays old new s report =
       (past : List Entry) → StandsFor old past → StepSuits (setup_of old) past s →
@@ -114,8 +114,8 @@ module _ {D : Type 0} {g : Ghosts D} where
       (past : List Entry) → StandsFor machine past → due_of machine at
       ≡ due_in (setup_of machine) past at
 
-  -- What a power cut left isn't what stood on the disk, and this is why. That is told of no other
-  -- step, and never of a trusted disk.
+  -- What a power cut left isn't what stood on the disk, and this is why. That is reported of no
+  -- other step, and never of a trusted disk.
   abbrev pub LosesIn : Machine D g → D → CrashNo → Step → Type 0
   LosesIn old left why (step.Crash at choice) =
       ((past : List Entry) → StandsFor old past → RestartSuits (setup_of old) past at →
@@ -123,8 +123,8 @@ module _ {D : Type 0} {g : Ghosts D} where
       × DueAsTold old at × Loses (setup_of old) (used_of old) (due_of old at) (g.seen left) why
   LosesIn old left why s = ⊥
 
-  -- What the disk has after a step that was played, where that is a power cut, and what is told of
-  -- it, newest entry first. Any other step shows no record as kept.
+  -- What the disk has after a step that was played, where that is a power cut, and what is reported
+  -- of it, newest entry first. Any other step shows no record as kept.
   abbrev pub RestartsBy : Machine D g → Machine D g → Step → List Entry → Type 0
   RestartsBy old new (step.Crash at choice) news =
       DueAsTold old at
@@ -138,7 +138,7 @@ module _ {D : Type 0} {g : Ghosts D} where
   Breaks old left why s = LosesIn old left why s
 
   -- A step that makes no call of the disk gave these entries, oldest first: the setup and the
-  -- journal stay, the machine goes on by the entries, and they tell no power cut and no record,
+  -- journal stay, the machine goes on by the entries, and they report no power cut and no record,
   -- neither as put nor as kept. This is the desk then.
   pub record PlaysUndisturbed (old new : Machine D g) (s : Step) (report : List Entry)
       (after : Desk) : Type 0 where
@@ -152,8 +152,8 @@ module _ {D : Type 0} {g : Ghosts D} where
 
   -- A step was played, and gave these entries, oldest first. The setup stays, no put of the journal
   -- failed, and the machine goes on by the entries. Just a power cut shows one; the journal counts
-  -- the records that they tell more, and after a power cut the disk has what they tell. The disk
-  -- goes on, and only a power cut cuts it, once and by its choice. This is the desk then.
+  -- as many records more as they report, and after a power cut the disk has what they report. The
+  -- disk goes on, and only a power cut cuts it, once and by its choice. This is the desk then.
   pub record PlayedTo (old new : Machine D g) (s : Step) (report : List Entry) (after : Desk) : Type
       0 where
     pub setup : setup_of new ≡ setup_of old
@@ -163,7 +163,7 @@ module _ {D : Type 0} {g : Ghosts D} where
     pub plays : Plays old new s report
     -- Exactly a power cut is reported as one.
     pub told : crashes (reverse report) ≡ crashes_of s
-    -- The journal counts the records that the entries tell, whatever happened before and over any
+    -- The journal counts the records that the entries report, whatever happened before and over any
     -- disk.
     pub counts : used_of new ≡ used_of old + length (records (reverse report))
     -- A power cut is played only if a read of the disk then gives as many records as the journal
@@ -182,8 +182,8 @@ module _ {D : Type 0} {g : Ghosts D} where
   StepPlayed old new s report =
       PlayedTo old new s report (desk_after s (reverse report) (desk_of old))
 
-  -- The host was given a payment of the session at the desk, and these are the entries of its
-  -- answer, oldest first. The rest is as in a step that makes no call of the disk.
+  -- The host was given a payment of the session at the operator's desk, and these are the entries
+  -- of its answer, oldest first. The rest is as in a step that makes no call of the disk.
   pub record Pays (old new : Machine D g) (p : Payment) (report : List Entry) : Type 0 where
     pub setup : setup_of new ≡ setup_of old
     pub journal : hosts.journal_of new.host ≡ hosts.journal_of old.host

@@ -52,14 +52,14 @@ pub record Restarts (setup : Setup) (due : Option Record) (put many : ℕ) (seen
   pub news_are : news ≡ told_by many all.kept
   pub whole : IsWhole setup seen many
 
--- The records that entries tell as kept.
+-- The records that entries report as kept.
 abbrev pub kept_in : List Entry → List Record
 kept_in [] = []
 kept_in (entry.Kept r ∷ past) = r ∷ kept_in past
 kept_in (e ∷ past) = kept_in past
 
 -- After a step that is a power cut a host starts again so, where this record, or none, was due:
--- none where the step names no put, and what any past tells for which this stood before. Any other
+-- none where the step names no put, and what any past shows for which this stood before. Any other
 -- step shows no record as kept.
 abbrev pub RestartsIn : (List Entry → Type 0) → Setup → Step → ℕ → ℕ → Option (List ℕ) →
     List Entry → Type 0
@@ -85,7 +85,7 @@ pub record CutAt {D : Type 0} (size : D → ℕ) (honest : D → Bool) (seen : D
   pub holds : P choice (seen after)
 
 -- This record, or none, was due where a power cut comes after a past: none where that names no put;
--- and the one that the past tells, where it may be relied on.
+-- and the one that the past shows, where it may be relied on.
 pub record WasDue (sure : Type 0) (setup : Setup) (past : List Entry) (at : Option CrashAt)
     (due : Option Record)
     : Type 0 where

@@ -40,7 +40,8 @@ is_of_desk (step.Change first amount) = true
 is_of_desk step.Serve = true
 is_of_desk s = false
 
--- What is told of a `serve` that gives the host no payment; of one that does, the answer tells.
+-- What is reported of a `serve` that gives the host no payment; of one that does, the answer says
+-- it.
 abbrev pub entries_told : Serving → List Entry
 entries_told serving.Idle = entry.ServeIdle ∷ []
 entries_told (serving.Wait addr) = entry.ServeWait addr ∷ []
@@ -49,7 +50,7 @@ entries_told (serving.Served amount) = entry.Served amount ∷ []
 entries_told (serving.Short shortfall) = entry.Short shortfall.paid shortfall.rest ∷ []
 entries_told (serving.Pay p) = []
 
--- How many power cuts an entry tells: one or none.
+-- How many power cuts an entry reports: one or none.
 abbrev pub crashes_told : Entry → ℕ
 crashes_told (entry.Crash used) = 1
 crashes_told e = 0

@@ -47,8 +47,8 @@ module _ {D : Type 0} {g : Ghosts D} where
   abbrev pub Plays : World D g → World D g → Step → List Entry → Type 0
   Plays old new s report = machines.Plays old.machine.value new.machine.value s report
 
-  -- What the disk has after a step that was played, where that is a power cut, and what is told of
-  -- it, newest entry first. Any other step shows no record as kept.
+  -- What the disk has after a step that was played, where that is a power cut, and what is reported
+  -- of it, newest entry first. Any other step shows no record as kept.
   abbrev pub RestartsBy : World D g → World D g → Step → List Entry → Type 0
   RestartsBy old new s news = machines.RestartsBy old.machine.value new.machine.value s news
 

@@ -1,4 +1,4 @@
--- What was taken and told so far, and that source and sink served.
+-- What was taken and reported so far, and that source and sink served.
 use Rattle.std.proofs.Common.{◌-◌}
 use Rattle.cct_edge.specs.Bytes.{Serves}
 use Rattle.cct_script.specs.Giving.{standing_of}
