@@ -377,7 +377,7 @@ line_heard d sent heard = exchange (asked d.kind sent) (got_by d sent heard)
 abbrev pub after_failed : ℕ → Option ℕ
 after_failed failed = if suc failed == 3 then None else Some (suc failed)
 
--- What is asked first of a device of a family that other families don't answer.
+-- The first question to a device of a family that other families aren't asked.
 abbrev pub first_own_question : Family → Request
 first_own_question family.Acceptor = GetMaster
 first_own_question family.Hopper = TestHopper

@@ -211,7 +211,7 @@ module _ {L : Type 0} (gives : L → List ℕ → List ℕ → L → Type 0) (se
     linked_as after.watch same ∙ ap {B = Watched L} (λ w. record { link = old; watch = w }) kept,
   )
 
-  -- the use of a link that reports some exchanges, and asks nothing
+  -- the use of a link of which some exchanges are reported, and which asks nothing
   pub uses_told : (roll : Rolled) (old new : Watched L) (told : List Told) →
       Exchanges gives sent failures devices old new told → UsesLink gives sent failures devices roll roll old new told
   uses_told roll old new told h = tells roll old new told h

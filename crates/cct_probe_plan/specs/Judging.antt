@@ -87,7 +87,7 @@ abbrev pub is_once : Premise → Bool
 is_once (premise.Common common.Once) = true
 is_once this = false
 
--- One of two equal messages, but where a premise is tried that shows them; else all bytes.
+-- One of two equal messages, unless it is tried whether a reply comes once; else all bytes.
 abbrev pub single : Premise → List ℕ → List ℕ
 single tried bytes = if is_twice bytes && not (is_once tried) then first_part bytes else bytes
 

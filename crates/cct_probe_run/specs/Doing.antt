@@ -240,7 +240,7 @@ module _ {L K : Type 0} (reads : L → Option (List ℕ) → L → Type 0)
   TryCame device trial first last answered = (came : Done) × CameIn device trial came first last
       × (answered ≡ false → came ≡ done.Broken (premise.Common common.Answers))
 
-  -- A device doesn't answer, which was reported as broken.
+  -- That a device answers was reported as broken.
   abbrev pub IsAbsent : DeviceSetup → Bench L K → Bench L K → Type 0
   IsAbsent device first last = (other : Trial) × Contains trials other
       × CameIn device other (done.Broken (premise.Common common.Answers)) first last
