@@ -35,7 +35,7 @@ pub enum Inserted {
     Inhibited,
 }
 
-/// A coin acceptor of a setup. Its contracts tell it by all that it met, newest first.
+/// A coin acceptor of a setup. Its contracts describe it by all that it met, newest first.
 #[derive(Drop)]
 pub struct Acceptor<'s> {
     setup: &'s DeviceSetup,

@@ -34,7 +34,7 @@ const RETURNED: Pair = Pair { a: 0, b: 1 };
 /// The error event of a bill that wasn't held.
 const INHIBITED: Pair = Pair { a: 0, b: 2 };
 
-/// A bill acceptor of a setup. Its contracts tell it by all that it met, newest first.
+/// A bill acceptor of a setup. Its contracts describe it by all that it met, newest first.
 #[derive(Drop)]
 pub struct BillAcceptor<'s> {
     setup: &'s DeviceSetup,

@@ -19,8 +19,8 @@ use cct_hopper::Hopper;
 use cct_model::{DeviceBody, DeviceSetup, Happening, MOST_SENT};
 use std::alloc::{AllocError, Global};
 
-/// A coin acceptor, a bill acceptor or a hopper. Its contracts tell it by all that it met, newest
-/// first.
+/// A coin acceptor, a bill acceptor or a hopper. Its contracts describe it by all that it met,
+/// newest first.
 #[derive(Drop)]
 pub(crate) enum Body<'s> {
     Acceptor(Acceptor<'s>),

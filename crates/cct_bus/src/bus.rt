@@ -38,8 +38,8 @@ use cct_wire::Link;
 use std::alloc::{AllocError, Global};
 
 /// Up to `DEVICES` devices on one wire: coin acceptors, bill acceptors and hoppers (ccTalk Generic
-/// Specification 4, part 1). Its contracts tell it by the transcript of all that happened on it,
-/// newest entry first.
+/// Specification 4, part 1). Its contracts describe it by the transcript of all that happened on
+/// it, newest entry first.
 #[derive(Drop)]
 pub struct Bus<'s> {
     setup: &'s Setup,

@@ -22,7 +22,7 @@ pub struct Asked {
 
 /// How a device hears the bytes of the wire, one by one. The first byte of a message says whom it
 /// is for: where that is another device, the others pass by, since whatever they are asks nothing
-/// of this one. Its contracts tell it by the bytes that came since the last gap.
+/// of this one. Its contracts describe it by the bytes that came since the last gap.
 #[derive(Clone, Copy)]
 pub struct Listener {
     framer: Framer,

@@ -1,5 +1,5 @@
 //! What a device that takes money holds, whether coins or bills (ccTalk Generic Specification 4,
-//! part 2): headers 231 and 230 set and tell its inhibit mask, 228 and 227 its master inhibit, and
+//! part 2): headers 231 and 230 set and read its inhibit mask, 228 and 227 its master inhibit, and
 //! 225 shows its accept counter.
 ghost use Rattle.std.specs.Prelude.{◌≡◌, ◌<◌, ◌≤◌, ◌^◌, ℕ, suc, List, [], ◌∷◌, false, IfOk, IfSome};
 ghost use Rattle.std.specs.Option.{option_map};

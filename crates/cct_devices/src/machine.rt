@@ -18,7 +18,7 @@ use cct_model::{Happening, MOST_HEARD, MOST_SENT, Setup};
 use cct_wire::Link;
 use std::alloc::{AllocError, Global};
 
-/// The devices of a setup on a line. Contracts tell it by the transcript of all that happened,
+/// The devices of a setup on a line. Contracts describe it by the transcript of all that happened,
 /// newest entry first, and by the bytes of a message that isn't whole yet.
 #[derive(Drop)]
 pub struct Machine<'s> {
@@ -43,8 +43,8 @@ impl<'s> Machine<'s> {
         })
     }
 
-    /// The devices hear one byte more. Once the message is whole by the length that it tells, they
-    /// act on it, and what they answer is in the place of what `said` holds; else nothing does.
+    /// The devices hear one byte more. Once the message is whole by the length that it gives, they
+    /// act on it, and what they answer replaces what `said` holds; else nothing does.
     pub fn hear(&mut self, byte: u8, said: &mut ArrayVec<u8, MOST_HEARD>)
         ensures setup { setup_of self.new ≡ setup_of self.old }
         ensures more { (past : List Entry) (bytes : List ℕ) → StandsFor self.old past bytes

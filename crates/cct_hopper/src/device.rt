@@ -7,7 +7,7 @@ use cct_device_core::Listener;
 use cct_life::LifeCount;
 use cct_model_wire::DeviceSetup;
 
-/// The hopper itself, without what its state tells: whether it may pay, and how many coins are left
+/// The hopper itself, without what its state shows: whether it may pay, and how many coins are left
 /// to fall.
 #[derive(Clone, Copy)]
 pub(crate) struct Device<'s> {

@@ -22,7 +22,7 @@ use cct_device_core::{Asked, asked_whole, common_reply, give};
 use cct_life::LifeCount;
 use cct_model_wire::{DeviceBody, DeviceSetup, ENABLE_CODE, MOST_SENT, Reply, Request};
 
-/// A hopper of a setup, in one of its three states. Its contracts tell it by all that it met,
+/// A hopper of a setup, in one of its three states. Its contracts describe it by all that it met,
 /// newest first.
 #[derive(Drop)]
 pub enum Hopper<'s> {

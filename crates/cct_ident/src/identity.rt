@@ -1,4 +1,4 @@
-//! What a device tells of itself (ccTalk Generic Specification 4, part 2): headers 246, 245, 244,
+//! What a device says of itself (ccTalk Generic Specification 4, part 2): headers 246, 245, 244,
 //! 241 and 192 read its texts, and 242 its serial number.
 ghost use Rattle.std.specs.Prelude.{◌≡◌, ◌≤◌, codes, length};
 ghost use Rattle.cct_model_wire.specs.Device.{category_of};

@@ -1,5 +1,5 @@
 //! Jobs and transcripts: what a reading means, the lines of an address, the job and the epoch that
-//! they tell, what is a legal transcript, and what is claimed of one. All but the table of tests is
+//! they show, what is a legal transcript, and what is claimed of one. All but the table of tests is
 //! in `specs/`, over the definitions of what a wire, a device and a line are, which this crate
 //! passes on with their plain types.
 #![tactic(auto)]

@@ -30,7 +30,7 @@ pub enum Command {
     Halt { addr: u8 },
     /// List the devices on the wire.
     Scan,
-    /// Ask device `addr` for all that it tells of itself.
+    /// Ask device `addr` for all that it says of itself.
     Ident { addr: u8 },
     /// Let coins of a place, 1 to 16, of acceptor `addr` fall by a sorter path, 1 to 8; place 0
     /// sets the default path.

@@ -48,7 +48,7 @@ pub enum End {
     NoAnswer,
     /// These devices answered.
     Listed(Listed),
-    /// The device told all of itself.
+    /// The device said all of itself.
     Told,
     /// The sorter path of a coin place, or with place 0 the default path, was set, and was read
     /// back.
@@ -122,7 +122,7 @@ pub enum SumOf {
 #[derive(Clone, Drop, PartialEq, Eq)]
 pub enum Said {
     /// The acceptor accepted these coins between its two readings, oldest first: those among as
-    /// many of the newest events as the two event counters tell, at most five (ccTalk Generic
+    /// many of the newest events as the two event counters show, at most five (ccTalk Generic
     /// Specification 4, part 2, header 229).
     Sure {
         addr: u8,

@@ -54,7 +54,7 @@ pub enum Record {
         paid: u8,
         unpaid: u8,
     },
-    /// An order is closed whose life counts tell more coins than were ordered.
+    /// An order is closed whose life counts show more coins than were ordered.
     Odd {
         id: u32,
         life_before: u32,
@@ -88,7 +88,7 @@ impl Record {
         }
     }
 
-    /// How many coins it tells to be lost.
+    /// How many coins it reports as lost.
     pub fn lost(&self) -> u32
         ensures { result ≡ coins_lost self.now }
     {

@@ -49,7 +49,7 @@ pub struct Credits {
     pub pairs: [Pair; EVENTS],
 }
 
-/// The coins that one record posts, oldest first: at most five, as many as the credit buffer tells.
+/// The coins that one record posts, oldest first: at most five, as many as the credit buffer gives.
 #[derive(Clone, Debug, Default, Drop, PartialEq, Eq)]
 pub struct Coins {
     coins: ArrayVec<Coin, EVENTS>,

@@ -68,8 +68,8 @@ pub enum Request {
     RouteBill { way: u8 },
     /// Header 164, one data byte: the hopper may pay where the byte is [`ENABLE_CODE`].
     Enable { code: u8 },
-    /// Header 167, four data bytes: pay so many coins, told to the hopper with this serial number,
-    /// which is below 2^24.
+    /// Header 167, four data bytes: pay so many coins, meant for the hopper with this serial
+    /// number, which is below 2^24.
     Dispense { serial: u32, count: u8 },
     /// Header 167 with nine data bytes, which are under a cipher.
     CipherDispense,

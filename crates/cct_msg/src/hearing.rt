@@ -48,7 +48,7 @@ fn to_all(request: Option<Request>) -> Option<Request>
 
 /// The reply in the form that the host wants from an address under a check, in what it heard after
 /// what it sent, or `None` where that is no such reply after the echo.
-// Inlined: a reply is wide, and to hand it over costs more than to tell which form it has.
+// Inlined: a reply is wide, and to hand it over costs more than to find which form it has.
 #[inline(always)]
 #[tactic(auto, unfolding(cct_model_wire::specs::Exchange::got))]
 pub fn wanted_reply<'h>(

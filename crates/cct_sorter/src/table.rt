@@ -1,4 +1,4 @@
-//! The table of coins (ccTalk Generic Specification 4, part 2): headers 231 and 230 set and tell
+//! The table of coins (ccTalk Generic Specification 4, part 2): headers 231 and 230 set and read
 //! the inhibit mask, 228 and 227 the master inhibit, 210 and 209 the sorter path of a coin place,
 //! 189 and 188 the default path.
 ghost use Rattle.std.specs.Prelude.{◌≡◌, ◌≤◌, ◌↔◌, ◌&&◌, List, [], ◌∷◌, IsErrOf, IsOk, IsTrue};
@@ -11,7 +11,7 @@ ghost use Rattle.cct_sorter.specs.Table.{Holds};
 use cct_model_wire::{COIN_PLACES, PATHS, has_place};
 use thiserror::Error;
 
-/// What an acceptor was told of coins since its last reset.
+/// What was set at an acceptor for coins since its last reset.
 #[derive(Clone, Copy, PartialEq, Eq)]
 pub struct CoinTable {
     mask: u16,

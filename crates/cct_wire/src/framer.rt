@@ -23,8 +23,8 @@ pub enum Fed {
 
 /// The bytes of a wire since the last gap, as they come: it says when they are a message, and what
 /// that says. It needs no device, so a host may take its replies from a line by it. Each byte goes
-/// into the sum or the CRC when it comes, and none is looked at again. Its contracts tell it by the
-/// bytes that came since the last gap.
+/// into the sum or the CRC when it comes, and none is looked at again. Its contracts describe it by
+/// the bytes that came since the last gap.
 #[derive(Clone, Copy)]
 pub struct Framer {
     kind: CheckKind,
