@@ -1,4 +1,4 @@
-// A disk over a file, which tells nothing of its bytes.
+// A disk over a file, which shows nothing of its bytes.
 ghost use Rattle.std.specs.Prelude.{◌≡◌, ◌↔◌, false, true, None, IfOk, IsTrue, IsOk, IsErr, OnOk};
 ghost use Rattle.std.specs.Prelude.{OnErr, length};
 ghost use Rattle.cct_edge.specs.Faults.{CountsFaults, next_count};
@@ -23,7 +23,7 @@ const PIECE: usize = 16_384;
 // So often.
 const PIECES: u64 = MADE_LEN / PIECE as u64;
 
-/// A disk over a file, which tells nothing of its bytes. `docs/JOURNAL.md` says what a real file
+/// A disk over a file, which shows nothing of its bytes. `docs/JOURNAL.md` says what a real file
 /// does and doesn't do.
 ///
 /// A cut leaves what was written, and answers Ok where there is a file. After a sync that failed

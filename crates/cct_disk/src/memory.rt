@@ -1,4 +1,5 @@
-// A disk in memory that keeps a trace of its changes, and whose calls fail where they are told to.
+// A disk in memory that keeps a trace of its changes, and each of whose calls can be made to fail
+// by its number.
 ghost use Rattle.std.specs.Prelude.{◌≡◌, ◌⊎◌, ◌↔◌, ◌+◌, ◌<◌, ◌≤◌, true, Some, IsErr, IfOk, OnOk};
 ghost use Rattle.std.specs.Prelude.{OnErr};
 ghost use Rattle.std.specs.Prelude.{ℕ, List, length, take, drop, set};
@@ -79,7 +80,7 @@ impl MemDisk {
         self.content.poke(at as usize, byte);
     }
 
-    // Writes, but tears its range by this choice where its number is told to fail.
+    // Writes, but tears its range by this choice where its number is one that is made to fail.
     pub(crate) fn write_or_tear(&mut self, at: u64, bytes: &[u8], choice: u64) -> Result<(), Failed>
         requires { at + length bytes.now ≤ length self.old.content.bytes }
         ensures goes_on { MemoryGoesOn self.old self.new }
@@ -99,8 +100,8 @@ impl MemDisk {
     }
 }
 
-// Begins a call that changes a disk and replaces so many bytes. It fails where its number is told
-// to fail, and where there is no room.
+// Begins a call that changes a disk and replaces so many bytes. It fails where its number is one
+// that is made to fail, and where there is no room.
 fn begin_change(content: &Traced, calls: &mut Calls, replaced: usize) -> Result<(), Failed>
     requires { IsTraced content.now }
     ensures fails { IsErr result ↔

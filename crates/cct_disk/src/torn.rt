@@ -1,4 +1,4 @@
-// A disk in memory that tears a write that is told to fail.
+// A disk in memory that tears a write that is made to fail.
 ghost use Rattle.std.specs.Prelude.{◌≡◌, ◌⊎◌, ◌+◌, ◌≤◌, true, Some, IfOk, OnOk};
 ghost use Rattle.std.specs.Prelude.{ℕ, List, length, take, drop};
 ghost use Rattle.cct_edge.specs.Memory.{FailsNext};
@@ -15,12 +15,12 @@ use cct_edge::Failed;
 use std::alloc::{AllocError, Global};
 use std::marker::Model;
 
-/// A `MemDisk` that tears a write that is told to fail.
+/// A `MemDisk` that tears a write that is made to fail.
 ///
 /// Such a write fails, but sets each byte of its range by the disk's choice as a cut does: 0 leaves
 /// the byte that stood there, 1 the byte to be written, 2 the latter at even places and the former
 /// at odd ones, and any other choice the sum of choice and place, modulo 256. Its range counts as
-/// written: until a sync or a cut, a cut may leave any bytes there. Each other call that is told to
+/// written: until a sync or a cut, a cut may leave any bytes there. Each other call that is made to
 /// fail, and each that lacks room, fails and changes nothing.
 #[derive(Drop)]
 pub struct TornDisk {

@@ -18,7 +18,8 @@ pub fn make_calls<D: Disk>(queue: &QueueDisk, part: &mut D) -> Result<(), Failed
     // base.
     ensures moments { (base : List ℕ) → Holds D.honest D.seen D.may_leave part.old base
         → LeavesOnly D.moment D.left_since part.old part.new (Since base queue.now.calls 0) }
-    // Where each was done, the part has what the queue tells, and leaves no more than that might.
+    // Where each was done, the part has the bytes that the queue shows, and leaves no more than
+    // that might.
     ensures made { OnOk result ((base : List ℕ) → Holds D.honest D.seen D.may_leave part.old base
         → HasMade D.honest D.seen D.may_leave part.new base queue.now.calls) }
     ensures goes_on { GoesOn D.size D.honest D.seen D.cuts part.old part.new }

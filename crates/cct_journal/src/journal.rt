@@ -252,7 +252,7 @@ impl<D: Disk> Journal<D> {
 
         // each image that a power cut at a moment of the call may leave: Within a call of the disk
         // or between two, of the turn too, whether calls fail or not, each image that a power cut
-        // may leave stands for the records before, or for these and the new one.
+        // may leave represents the records before, or these and the new one.
         ensures moments { (carry_of : List Record → Carry) (records : List Record)
             → JournalStandsWith carry_of self.old carry.now records
             → LeavesOnly D.moment D.left_since (disk_of self.old) (disk_of self.new)

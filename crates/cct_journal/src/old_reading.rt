@@ -69,7 +69,7 @@ fn read_old_slot<D: Disk>(disk: &mut D, old: &OldPlace, index: u32) -> Result<Sl
 }
 
 /// Counts the open slots of a journal of an older version up to the first shut gate, whatever their
-/// bodies are, and tells how many records that makes with those before its half.
+/// bodies are, and says how many records that makes with those before its half.
 pub(crate) fn count_slots<D: Disk>(disk: &mut D, old: &OldPlace) -> Result<u32, Failed>
     requires { MayBeCounted (D.size disk.old) old.now }
     ensures later { IfOk result (λ used. old.now.place.base ≤ used) }

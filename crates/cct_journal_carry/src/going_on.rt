@@ -89,7 +89,7 @@ fn begin(carry: &mut Carry, addr: u8, mask: u16, accepts: u32)
     set_epoch(&mut carry.epochs, addr, Some(epoch));
 }
 
-/// Coins are posted that the device at an address took, and so many others told to be lost.
+/// Coins are posted that the device at an address took, and so many others recorded as lost.
 fn post(setup: &Setup, carry: &mut Carry, addr: u8, coins: &[Coin], lost: u32)
     requires few { length coins.now ≤ EVENTS }
     requires value { carry.old.value + money.coins_value (device_at setup.now.devices addr)

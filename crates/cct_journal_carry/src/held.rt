@@ -1,4 +1,4 @@
-//! What a carry tells before one more record.
+//! What a carry says before one more record.
 ghost use Rattle.std.specs.Prelude.{◌≡◌, ◌==◌};
 ghost use Rattle.std.specs.List.{find};
 ghost use Rattle.std.specs.Option.{option_map};

@@ -28,7 +28,7 @@ pub fn the_carry_of_no_record_is_empty()
     ensures oldest_first { (setup : Setup) → carry_of setup [] ≡ empty_carry }
 {}
 
-/// Where records follow one another, their carry says what they tell: the epoch and the open order
+/// Where records follow one another, their carry gives what they give: the epoch and the open order
 /// at any address, which orders are open by their ids and what each of these is, what is reserved,
 /// and what is available beside anything.
 pub fn a_carry_tells_what_its_records_tell()

@@ -1,4 +1,4 @@
-//! What one record tells: the id that it uses, and how the epoch of its address goes on.
+//! What one record says: the id that it uses, and how the epoch of its address goes on.
 ghost use Rattle.std.specs.Prelude.{◌≡◌};
 ghost use Rattle.cct_model.specs.Job.{counted, epoch_by};
 ghost use Rattle.cct_model.specs.Records.{id_of};
