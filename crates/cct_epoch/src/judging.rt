@@ -22,9 +22,9 @@ const ACCEPTS: u32 = 1 << 24;
 /// 0, since either shows a reset or a setting of another hand. Else it is [`Judged::Nothing`] if no
 /// event came and no coin was accepted, and else a [`Judged::Reading`].
 ///
-/// Both records post the coins among as many of the newest events as [`distance`] tells, five at
+/// Both records post the coins among as many of the newest events as [`distance`] gives, five at
 /// most, oldest first; an event whose first number is 0 is an error of the acceptor and no coin.
-/// Their `lost` is how many coins more than these the two recorded accept counters tell, and their
+/// Their `lost` is how many coins more than these the two recorded accept counters show, and their
 /// `accepts` is the last one read.
 #[tactic(auto, unfolding(cct_model::specs::Reading::judge, cct_model::specs::Reading::accepted_between))]
 pub fn judge(
@@ -87,12 +87,12 @@ fn accepted_between(before: u32, after: u32) -> u32
     (after + ACCEPTS - before) % ACCEPTS
 }
 
-/// How many events came between two event counters, as far as they tell: 0 to 254, or up to 255
+/// How many events came between two event counters, as far as they show: 0 to 254, or up to 255
 /// from counter 0.
 ///
 /// The event counter of an acceptor (header 229) is 0 after a reset and only then. Each event moves
 /// it on by one, and it goes from 255 to 1, so its cycle has 255 values. A counter that is back at
-/// 0 tells of no event.
+/// 0 shows no event.
 #[tactic(auto, unfolding(cct_model::specs::Reading::distance))]
 pub fn distance(old: u8, new: u8) -> u8
     ensures { result ≡ distance old new }

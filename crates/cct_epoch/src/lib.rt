@@ -1,4 +1,4 @@
-//! Readings of a coin acceptor in an epoch: how many events two event counters tell, and what a
+//! Readings of a coin acceptor in an epoch: how many events two event counters show, and what a
 //! reading means beside the inhibit mask, the event counter and the accept counter that are
 //! recorded.
 #![tactic(auto)]

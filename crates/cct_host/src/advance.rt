@@ -27,7 +27,7 @@ use cct_model::{Carry, Entry, Record};
 use cct_wire::Link;
 
 /// The job at an address makes one attempt: what it is about to put is in the journal before it
-/// goes on. What it tells begins in the place of the last entry.
+/// goes on. What it reports replaces the last entry of the report.
 pub(crate) fn advance<D: Disk, L: Link>(
     desks: &mut Desks<'_>,
     tally: &mut Tally<'_>,

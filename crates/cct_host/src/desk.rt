@@ -203,8 +203,8 @@ impl JobDesk {
     }
 
     /// The job makes one attempt of one row over a link, with the record that it is about to put,
-    /// if there is one; with no job the address is idle. What it tells begins in the place of the
-    /// last entry. It gives the id that its put used, or 0.
+    /// if there is one; with no job the address is idle. What it reports replaces the last entry of
+    /// the report. It gives the id that its put used, or 0.
     #[tactic(auto, using(crate::proofs::Counts::counted_by))]
     pub(crate) fn next<L: Link>(
         &mut self,

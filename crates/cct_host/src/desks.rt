@@ -210,7 +210,7 @@ impl<'s> Desks<'s> {
         JobDesk::held_in(self.devices.as_slice()) + self.sale.held()
     }
 
-    /// A bound on how many records are held, told without a look at the desks: three for each
+    /// A bound on how many records are held, known without a look at the desks: three for each
     /// device and for the sale.
     pub(crate) fn most_held(&self) -> u32
         ensures most { held_of self.now ≤ result }
@@ -353,7 +353,7 @@ impl<'s> Desks<'s> {
         }
     }
 
-    /// What all jobs reserve, in units of value: the sum of what [`Desks::reserved_at`] tells.
+    /// What all jobs reserve, in units of value: the sum of what [`Desks::reserved_at`] gives.
     pub(crate) fn reserved(&self) -> u64
         ensures value { result ≡ reserved_of self.now }
         ensures few { result < 2 ^ 32 * (puts_of self.now + 1) }
@@ -401,7 +401,7 @@ impl<'s> Desks<'s> {
     }
 
     /// The same, where the desk at the address is found, with the record that the job there is
-    /// about to put. What is told begins in the place of the last entry.
+    /// about to put. What is reported replaces the last entry of the report.
     pub(crate) fn next_there<L: Link>(
         &mut self,
         addr: u8,

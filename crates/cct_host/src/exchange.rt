@@ -18,8 +18,8 @@ use cct_model::{Entry, Piece, Record, Sent};
 use cct_msg::encode_request;
 use cct_wire::Link;
 
-/// A job sends its request over a link, and hears what follows. The exchange is told in the place
-/// of the last entry.
+/// A job sends its request over a link, and hears what follows. The exchange replaces the last
+/// entry of the report.
 fn converse<L: Link>(job: &mut Job, addr: u8, link: &mut L, report: &mut ArrayVec<Entry, 8>)
     requires asks { need_of job.old ≡ need.Exchange }
     requires last { 1 ≤ array_vec_len report.old }
@@ -99,8 +99,8 @@ fn talk<L: Link>(job: &mut Job, link: &mut L, sent: &mut Sent, heard: &mut Piece
     job.hear(sent.as_slice(), heard.as_slice());
 }
 
-/// The job at a desk makes one exchange over a link, which is told in the place of the last entry.
-/// A job that is then done leaves the desk, and the report has its end.
+/// The job at a desk makes one exchange over a link, which replaces the last entry of the report. A
+/// job that is then done leaves the desk, and the report has its end.
 pub(crate) fn exchange<L: Link>(
     at_desk: &mut Option<Job>,
     addr: u8,
@@ -129,7 +129,7 @@ pub(crate) fn exchange<L: Link>(
     }
 }
 
-/// The record of the job at a desk was put, which is told in the place of the last entry, and the
+/// The record of the job at a desk was put: the put replaces the last entry of the report, and the
 /// job goes on. A job that is then done leaves the desk, and the report has its end.
 pub(crate) fn put(
     at_desk: &mut Option<Job>,
@@ -159,7 +159,7 @@ pub(crate) fn put(
     }
 }
 
-/// The put of a record is told in the place of the last entry of a report.
+/// The put of a record replaces the last entry of a report.
 fn tell_put(report: &mut ArrayVec<Entry, 8>, entry: Record)
     requires last { 1 ≤ array_vec_len report.old }
     ensures told { report.new.items ≡ kept report.old.items ++ told.Put entry ∷ [] }
@@ -182,7 +182,7 @@ fn make_put(said: &mut Entry, entry: Record)
     }
 }
 
-/// An entry is told in the place of the last one of a report.
+/// An entry replaces the last one of a report.
 #[inline(always)]
 pub(crate) fn tell_over(report: &mut ArrayVec<Entry, 8>, entry: Entry)
     requires last { 1 ≤ array_vec_len report.old }

@@ -46,8 +46,8 @@ use cct_wire::Link;
 /// The host: the desks of its jobs, over a journal of its records, with the tally of what it needs
 /// of them.
 ///
-/// Each record is on the disk before the host goes on. Its contracts tell it by the transcript of
-/// all that happened, newest entry first. It takes no memory.
+/// Each record is on the disk before the host goes on. Its contracts describe it by the transcript
+/// of all that happened, newest entry first. It takes no memory.
 #[derive(Drop)]
 pub struct Host<'s, D: Disk> {
     pub(crate) desks: Desks<'s>,
@@ -67,7 +67,7 @@ impl<'s, D: Disk> Host<'s, D> {
 
     /// The host over a journal: it begins with the carry of the records before the current half,
     /// and goes over those of the half, oldest first. It has no job, and the epochs, open orders
-    /// and money that these tell. The disk is only read.
+    /// and money that these show. The disk is only read.
     ///
     /// Over a journal without records it always starts. [`StartNo::Disk`] comes where a call of the
     /// disk fails, and [`StartNo::BadRecord`] at the first record of the half where the carry
@@ -277,7 +277,7 @@ impl<'s, D: Disk> Host<'s, D> {
         // Only with a record due.
         ensures due { OnErr result (is_some (all_desks.due_on self.old.desks addr) ≡ true) }
         // The host has all of the past as before, and whatever a power cut leaves on a trusted disk
-        // stands for the records of the past, or for these and that one.
+        // represents the records of the past, or these and that one.
         ensures fails { OnErr result (Fails self.old self.new addr) }
         // And so does whatever one might have left at a moment of it.
         ensures between { OnErr result (FailsBetween self.old self.new addr) }
@@ -328,7 +328,7 @@ impl<'s, D: Disk> Host<'s, D> {
         // Only with a record due.
         ensures due { OnErr result (is_some (all_desks.due_on self.old.desks addr) ≡ true) }
         // The host has all of the past as before, and whatever a power cut leaves on a trusted disk
-        // stands for the records of the past, or for these and that one.
+        // represents the records of the past, or these and that one.
         ensures fails { OnErr result (Fails self.old self.new addr) }
         // And so does whatever one might have left at a moment of it.
         ensures between { OnErr result (FailsBetween self.old self.new addr) }
@@ -369,7 +369,7 @@ impl<'s, D: Disk> Host<'s, D> {
         // Only with a record due.
         ensures due { OnErr result (is_some (all_desks.due_on self.old.desks addr) ≡ true) }
         // The host has all of the past as before, and whatever a power cut leaves on a trusted disk
-        // stands for the records of the past, or for these and that one.
+        // represents the records of the past, or these and that one.
         ensures fails { OnErr result (Fails self.old self.new addr) }
         // And so does whatever one might have left at a moment of it.
         ensures between { OnErr result (FailsBetween self.old self.new addr) }

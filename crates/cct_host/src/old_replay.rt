@@ -28,7 +28,7 @@ pub(crate) fn tally_old<'s, D: Disk>(
 ) -> Result<Tally<'s>, ReadNo>
     requires sound { IsSoundSetup setup.now }
 
-    // what it tells
+    // what it returns
     ensures setup { IfOk result (λ tally. tallies.setup_of tally ≡ setup.now) }
     ensures counted { IfOk result (λ tally. tallies.many_of tally ≡ olds.used_of journal.old) }
     ensures over { IfOk result (λ tally. (rest : List Record)

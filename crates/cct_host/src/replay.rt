@@ -30,7 +30,7 @@ pub(crate) fn replay_all<'s, D: Disk>(
 ) -> Result<Tally<'s>, StartNo>
     requires sound { IsSoundSetup setup.now }
 
-    // what it tells
+    // what it returns
     ensures setup { IfOk result (λ tally. tallies.setup_of tally ≡ setup.now) }
     ensures counted { IfOk result (λ tally. tallies.many_of tally ≡ journals.used_of journal.old) }
     ensures some { IfOk result (λ tally. TalliesSome setup.now (journals.base_of journal.old)

@@ -57,7 +57,7 @@ pub(crate) fn restart<'s, D: Disk>(
     ensures setup { all_desks.setup_of desks.new ≡ all_desks.setup_of desks.old }
     ensures together { BelongTogether desks.new tally.new journal.new }
 
-    // what is restarted, and what it tells
+    // what is restarted, and what it gives
     ensures due { (past : List Entry) → all_desks.StandsFor desks.old past
         → due_for desks.old at ≡ due_in (all_desks.setup_of desks.old) past at }
     ensures restarts { IfOk result (λ crashed. JournalRestarts (calls_in at) (due_for desks.old at)

@@ -52,7 +52,7 @@ pub enum Serving {
 /// hopper as the operator counted them. It outlives a power cut of the host. All stocks are 0 at
 /// first.
 ///
-/// A contract sees what is known at the desk.
+/// A contract sees the session and the trays.
 #[derive(Drop)]
 pub struct Desk {
     session: Option<Session>,

@@ -1,4 +1,4 @@
-//! What becomes of a payment of a session, as the entries of a step tell it.
+//! What becomes of a payment of a session, as the entries of a step show it.
 ghost use Rattle.std.specs.Prelude.{◌≡◌, ◌∷◌, [], reverse};
 ghost use Rattle.std.specs.List.{list_any};
 ghost use Rattle.cct_model.specs.Change.{closed_in, is_end_at, is_opening, phase_after};
@@ -95,7 +95,7 @@ fn is_end_at(addr: u8, entry: &Entry) -> bool
     }
 }
 
-/// What an entry tells of an open order, or what was known before.
+/// What an entry says of an open order, or what was known before.
 fn closed_told(id: u32, entry: &Entry, before: Phase) -> Phase
     ensures { result ≡ closed_told id entry.now before }
 {
@@ -106,7 +106,7 @@ fn closed_told(id: u32, entry: &Entry, before: Phase) -> Phase
     }
 }
 
-/// What a record tells of an open order, or what was known before.
+/// What a record says of an open order, or what was known before.
 fn closed_by(id: u32, record: &Record, before: Phase) -> Phase
     ensures { result ≡ closed_by id «record».now before }
 {

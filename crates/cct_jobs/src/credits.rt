@@ -39,7 +39,7 @@ pub(crate) fn credits_in(reply: &Reply<'_>) -> Credits
     }
 }
 
-/// The credits that a device of a family told, as they are judged.
+/// The credits that a device of a family reported, as they are judged.
 pub(crate) fn noted(family: Family, credits: Credits) -> Credits
     ensures { result ≡ noted_credits family credits }
 {

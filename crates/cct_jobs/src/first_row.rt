@@ -137,7 +137,7 @@ fn recorded_in(epoch: &EpochState) -> Recorded
     }
 }
 
-/// The open order, whose life count is one that a hopper told.
+/// The open order, whose life count is one that a hopper gave.
 fn owed_in(order: Option<&OpenOrder>) -> Owed
     requires there { IsTrue (is_some (option_map (λ o. o.now) order)) }
     requires life { (o : OpenOrder) → option_map (λ o. o.now) order ≡ Some o → o.life < 2 ^ 24 }

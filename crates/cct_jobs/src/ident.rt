@@ -1,4 +1,4 @@
-//! The identification: a device is asked for all that it tells of itself, one thing after the other
+//! The identification: a device is asked for all that it says of itself, one thing after the other
 //! (ccTalk Generic Specification 4, parts 2 and 3).
 ghost use Rattle.std.specs.Prelude.{[], Option, ◌≡◌, ℕ, Some};
 ghost use Rattle.cct_model.specs.Reply.{Reply};
@@ -26,7 +26,7 @@ pub(crate) fn told(job: &mut Job, device: Target, question: Request)
 }
 
 /// What is asked after a question: of every device its texts, its serial number and the release of
-/// the standard, and then what other families don't tell.
+/// the standard, and then what other families don't say.
 fn question_after(question: Request, family: Family) -> Option<Request>
     ensures { result ≡ question_after family question }
 {
@@ -73,7 +73,7 @@ fn acceptor_question_after(question: Request) -> Option<Request>
     }
 }
 
-/// What is asked first of a device of a family that other families don't tell.
+/// What is asked first of a device of a family that other families don't say.
 fn first_own_question(family: Family) -> Request
     ensures { result ≡ first_own_question family }
 {

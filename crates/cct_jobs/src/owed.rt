@@ -3,7 +3,7 @@ ghost use Rattle.std.specs.Prelude.{◌<◌, ◌^◌};
 
 use cct_model::OpenOrder;
 
-/// An order whose life count is one that a hopper tells, in three bytes.
+/// An order whose life count is one that a hopper gives, in three bytes.
 #[derive(Clone, Copy, PartialEq, Eq)]
 pub struct Owed {
     pub order: OpenOrder,

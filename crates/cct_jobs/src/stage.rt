@@ -84,7 +84,7 @@ pub enum Stage {
         credits: Credits,
         mask_seen: u16,
     },
-    /// An identification asks a device for one of the things that it tells of itself.
+    /// An identification asks a device for one of the things that it says of itself.
     IdentAsks {
         question: Request,
     },

@@ -1,4 +1,4 @@
-//! How what a ledger takes and tells stands to the definitions of records and of money.
+//! What a ledger takes and gives, by the definitions of records and of money.
 ghost use Rattle.std.specs.Prelude.{◌≡◌, ℕ, true, List, length};
 ghost use Rattle.cct_model.specs.terms.device.Setup.{Setup};
 ghost use Rattle.cct_model.specs.lines.record.Record.{Record};
@@ -23,7 +23,7 @@ pub fn a_ledger_takes_what_follows()
         → is_allowed setup before beside r ≡ true → follows setup before r ≡ true }
 {}
 
-/// With what all running jobs reserve beside the records, what a ledger tells is what the operator
+/// With what all running jobs reserve beside the records, what a ledger gives is what the operator
 /// has after these entries.
 pub fn a_ledger_tells_what_the_operator_has()
     ensures available { (setup : Setup) (past : List Entry)

@@ -7,7 +7,7 @@ use cct_life::since;
 use cct_model::{OpenOrder, Record};
 
 /// The record that closes an order whose hopper then has this life count. As many coins as the life
-/// count tells were paid, and the others of the order were not; where it tells more than were
+/// count shows were paid, and the others of the order were not; where it shows more than were
 /// ordered, both life counts are recorded.
 #[tactic(auto, unfolding(cct_model::specs::Order::close, cct_model::specs::Order::life_between))]
 pub fn close(order: &OpenOrder, life_after: u32) -> Record

@@ -23,7 +23,7 @@ pub(crate) fn tabulate(cells: &mut [u16], trays: &[Tray], amount: usize)
     }
 }
 
-/// What the table tells of so many last trays and an amount.
+/// What the table says of so many last trays and an amount.
 pub(crate) fn told(cells: &[u16], many: usize, amount: usize) -> u16
     requires rows { many * ROW ≤ length cells.now }
     requires within { amount < ROW }
@@ -48,7 +48,7 @@ fn add_row(cells: &mut [u16], many: usize, amount: usize, tray: &Tray)
     fill(cells, many * ROW, amount, tray);
 }
 
-/// Begins that row with what the table tells of so many last trays.
+/// Begins that row with what the table says of so many last trays.
 fn begin(cells: &mut [u16], many: usize, amount: usize)
     requires rows { many * ROW + ROW ≤ length cells.old }
     requires within { amount < ROW }

@@ -50,8 +50,8 @@ pub enum Ask {
 }
 
 /// A host whose caller has the wire, and the part that keeps its journal. It calls nothing. Nothing
-/// is sent and no entry is told while a call on the part is noted: so what is reported as put is on
-/// the part, where the caller makes the calls in their order.
+/// is sent and no entry is reported while a call on the part is noted: so what is reported as put
+/// is on the part, where the caller makes the calls in their order.
 #[derive(Drop)]
 pub struct Poll<'s> {
     host: Host<'s, QueueDisk>,
@@ -103,7 +103,7 @@ impl<'s> Poll<'s> {
 
     /// What the caller is to do next, at an address.
     pub fn ask(&mut self, addr: u8) -> Ask
-        // Nothing is sent, told or put while a call is noted.
+        // Nothing is sent, reported or put while a call is noted.
         ensures settled { Tells result → (disk_of self.new.host).calls ≡ [] }
         ensures sends { result ≡ Ask.Send → self.new.asked ≡ Some addr }
         // A piece is sent once: then it is to be said what was heard.
