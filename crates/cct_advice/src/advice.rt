@@ -108,7 +108,7 @@ fn kind_named(word: &[u8]) -> LineKind {
     }
 }
 
-/// The refusal that its number and its kind tell.
+/// The refusal that its number and its kind give.
 fn refusal_of<'a>(rest: &'a [u8], script: &'a Window) -> Option<Refusal<'a>> {
     let (number, kind) = first_field(rest);
     let number = ranged(0, u64::MAX, number)?;

@@ -8,7 +8,7 @@ use crate::front::Front;
 use crate::window::Window;
 use cct_edge::{Failed, Sink, Source};
 
-/// A source whose last bytes are kept. It tells, and fails, as the one below.
+/// A source whose last bytes are kept. It shows its bytes, and fails, as the one below.
 #[derive(Drop)]
 pub struct KeptSource<S> {
     source: S,
@@ -60,7 +60,8 @@ impl<S: Source> Source for KeptSource<S> {
     }
 }
 
-/// A sink of which the front of the last put is kept. It tells, and fails, as the one below.
+/// A sink of which the front of the last put is kept. It shows its bytes, and fails, as the one
+/// below.
 #[derive(Drop)]
 pub struct KeptSink<K> {
     sink: K,

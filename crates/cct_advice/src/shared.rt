@@ -8,8 +8,8 @@ use crate::window::Window;
 use cct_edge::{Failed, Sink, Source};
 use std::cell::RefCell;
 
-/// A source whose last bytes are kept where a sink sees them. It tells, and fails, as the one
-/// below.
+/// A source whose last bytes are kept where a sink sees them. It shows its bytes, and fails, as the
+/// one below.
 #[derive(Drop)]
 pub struct SharedSource<'w, S> {
     source: S,
@@ -46,7 +46,7 @@ impl<S: Source> Source for SharedSource<'_, S> {
 }
 
 /// A sink that says on standard error, at each put of a line that shows a refused line, what is
-/// wrong with that. It tells, and fails, as the one below.
+/// wrong with that. It shows its bytes, and fails, as the one below.
 #[derive(Drop)]
 pub struct AdvisedSink<'w, K> {
     sink: K,

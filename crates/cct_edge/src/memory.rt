@@ -1,4 +1,4 @@
-// A source and a sink in memory, whose calls fail where they are told to.
+// A source and a sink in memory, each of whose calls can be made to fail by its number.
 ghost use Rattle.std.specs.Prelude.{◌≡◌, ◌⊎◌, ◌↔◌, ◌<◌, ◌≤◌, [], Some, IsTrue, IsErr, IfOk};
 ghost use Rattle.std.specs.Prelude.{MatchResult, OnOk, OnErr};
 ghost use Rattle.std.specs.Prelude.{Contains, length, take, min};

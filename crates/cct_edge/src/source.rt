@@ -16,7 +16,7 @@ pub trait Source {
     ghost faults: { Self → ℕ };
 
     /// What one take into a room of so many bytes does, by its answer, to the object before and
-    /// after: so a caller can tell each take that it made, and claims no other.
+    /// after: so a caller can state each take that it made, and claims no other.
     ghost takes: { Self → ℕ → Result ℕ Failed → Self → Type 0 };
 
     /// Moves the next bytes into the front of `room`, which isn't empty, and says how many they
@@ -26,7 +26,7 @@ pub trait Source {
     /// nothing.
     fn take(&mut self, room: &mut [u8]) -> Result<usize, Failed>
         requires { 0 < length room.old }
-        // So a caller can tell each take that it made, and claims no other.
+        // So a caller can state each take that it made, and claims no other.
         ensures one { takes self.old (length room.old) result self.new }
         ensures bound { ReadsAtMost result room.new }
         ensures bytes { ReadConsumes (left self.old) (left self.new) result room.new }

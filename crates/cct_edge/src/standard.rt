@@ -1,4 +1,4 @@
-// A source over any reader and a sink over any writer. As a source and a sink they tell nothing of
+// A source over any reader and a sink over any writer. As a source and a sink they show nothing of
 // their bytes; their own clauses say what the reader and the writer did, where those are known.
 ghost use Rattle.std.specs.Prelude.{◌≡◌, None, OnOk, OnErr, MatchResult};
 ghost use Rattle.std.specs.Io.{ReadsAtMost};

@@ -1,4 +1,4 @@
-//! A source and a sink over slices, which tell their bytes: for a program that hands its memory
+//! A source and a sink over slices, which show their bytes: for a program that hands its memory
 //! over, and takes none.
 #![tactic(auto)]
 

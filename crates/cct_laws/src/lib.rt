@@ -19,11 +19,10 @@
 //!   `legal_right` and `played_right`, which say six laws at once; `legal_written` of
 //!   `proofs/text/Texts.antt`;
 //! - for a host that restarts over its records `proofs/money/EpochsReplayed.antt`, which says what
-//!   each record more tells, and `proofs/money/Restarts.antt`, which says what entries a power cut
-//!   leaves;
+//!   each further record shows, and `proofs/money/Restarts.antt`, which says what entries a power
+//!   cut leaves;
 //! - `on_wire` of `proofs/wire/ForgedEntriesLast.antt`: the entries of a `next`, and after an
-//!   exchange that was forged the one that tells so, are those of a `next` on the wire of a
-//!   machine;
+//!   exchange that was forged the one that says so, are those of a `next` on the wire of a machine;
 //! - `books_legal` of `proofs/money/Books.antt`: of every legal past, ids are in order and the
 //!   books are kept;
 //! - `steady_step` of `proofs/jobs/Tries.antt`, `polls_step` of `proofs/jobs/Scans.antt` and
@@ -125,7 +124,7 @@ pub fn an_honest_fault_does_honest_damage()
         IsHonestFault f sent }
 {}
 
-/// A legal transcript shows an honest wire exactly if no line of it tells of a forged exchange. So
+/// A legal transcript shows an honest wire exactly if no line of it reports a forged exchange. So
 /// whoever reads it sees whether the laws over an honest wire speak of it. It holds of every setup
 /// and of all steps, in range or not. It says nothing of a transcript that isn't legal, and it
 /// doesn't say what a forged exchange does.
@@ -212,9 +211,10 @@ pub fn none_lost_in_silence()
 {}
 
 /// After each line, the coins up to the mark are exactly as many as all records of the acceptor up
-/// to then together post and tell to be lost, under the same pace. The mark is the number of coins
-/// up to which its last record or clean end tells. So at every moment what was posted and what was
-/// told to be lost is together what was accepted, up to the last reading that told anything.
+/// to then together post and report as lost, under the same pace. The mark is the number of coins
+/// up to which its last record or clean end reports. So at every moment what was posted and what
+/// was reported as lost is together what was accepted, up to the last reading that reported
+/// anything.
 pub fn coins_up_to_the_mark_are_tallied()
     ensures { EachTaker (λ d transcript. Pace (lines_in d transcript) →
         AlwaysTallies (lines_in d transcript)) }
@@ -305,10 +305,10 @@ pub fn scripts_are_in_range()
 
 /// The money of a script that was played up to any of its steps is right. Over an honest wire each
 /// device of its setup posts in order, where a hopper posts nothing; each that keeps the pace loses
-/// no coin in silence, and its coins up to the mark are as many as its records post and tell to be
+/// no coin in silence, and its coins up to the mark are as many as its records post and report as
 /// lost; and each hopper pays each order at most once, and closes it with exactly the coins that
 /// fell. Whatever the wire does, no id is in two of its records, and the transcript shows an honest
-/// wire exactly if no line tells of a forged exchange.
+/// wire exactly if no line reports a forged exchange.
 pub fn played_scripts_keep_the_laws()
     ensures { (capacity : ℕ) (bytes : List ℕ) (played rest : List Step) (transcript : List Entry)
         → (script bytes).steps ≡ played ++ rest → Legal capacity (script bytes).setup played transcript
@@ -323,12 +323,12 @@ pub fn by_address_devices_are_the_same_rising()
     ensures rising { (setup : Setup) → IsSoundSetup setup → AreRising (by_address setup.devices) }
 {}
 
-/// Steps tell their legal transcript at the desk of the operator, as long as none of them is a
-/// power cut that names a put. If one list of steps continues another, the legal transcript of the
+/// Steps decide their legal transcript with the operator's desk, as long as none of them is a power
+/// cut that names a put. If one list of steps continues another, the legal transcript of the
 /// shorter begins that of the longer; and of the transcripts of two fronts of one list one begins
 /// the other. Both are over the same setup and a journal of the same capacity. It says nothing of a
 /// power cut that names a put: there the disk may keep the record or not. And it says nothing of
-/// what is legal at some desk: there a `change` may begin a session or find one that runs.
+/// what is legal with some desk: there a `change` may begin a session or find one that runs.
 pub fn steps_tell_their_transcript()
     ensures longer { (capacity : ℕ) (setup : Setup) (played rest : List Step) (shorter longer : List Entry)
         → All NamesNoPut played → LegalAtDesk capacity setup played shorter → LegalAtDesk capacity setup (played ++ rest) longer
@@ -340,12 +340,12 @@ pub fn steps_tell_their_transcript()
         → Begins first second ⊎ Begins second first }
 {}
 
-/// What is legal at the desk of the operator is legal, where the setup is sound and the steps are
-/// in range: so every law of legal transcripts holds of those that a machine with a desk tells. A
+/// What is legal with the operator's desk is legal, where the setup is sound and the steps are in
+/// range: so every law of legal transcripts holds of those that a machine with a desk writes. A
 /// desk is right whose payments have ids of at least 1 and whose trays stand at addresses that are
 /// bytes. One at which nothing was done is right, each step keeps it so, and at a right desk each
-/// step has entries that are legal. It says nothing of what is legal and not so at the desk: a
-/// session that begins while another runs, or one that pays what no plan tells.
+/// step has entries that are legal. It says nothing of what is legal and not so with that desk: a
+/// session that begins while another runs, or one that pays what no plan says.
 pub fn what_is_legal_at_the_desk_is_legal()
     ensures whole { (capacity : ℕ) (setup : Setup) (steps : List Step) (transcript : List Entry)
         → IsSoundSetup setup → All IsInRange steps → LegalAtDesk capacity setup steps transcript
@@ -489,10 +489,10 @@ pub fn life_counts_fit_each_order()
         EachEntry FitsLife (onto [] transcript)) }
 {}
 
-/// What the records alone tell: the epoch of an acceptor and the open order of a hopper are those
-/// that the device's address and the records tell, after any entries whatever. Where the power was
+/// What the records alone show: the epoch of an acceptor and the open order of a hopper are those
+/// that the device's address and the records show, after any entries whatever. Where the power was
 /// just cut, in a put or not, no job is left, and what the operator has, the last id and how many
-/// records are held are what the records tell. So a host that is built from a journal needs nothing
+/// records are held are what the records show. So a host that is built from a journal needs nothing
 /// else.
 pub fn records_tell_what_a_host_needs()
     // After any entries.

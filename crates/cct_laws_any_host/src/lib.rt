@@ -65,10 +65,10 @@ pub fn what_a_monitor_says_is_true()
 /// A monitor is sure wherever it can be. A span of an acceptor between whose readings fewer than
 /// 255 pieces came is sure just where no tap between its readings shows a setting, at most five
 /// pieces came between them, as many as the credit buffer keeps, and a tap of its window shows a
-/// mask other than 0. That no reset came isn't asked: the mask shows it. Such a span is told with
-/// just the coins that the acceptor accepted between its readings. Of an acceptor that is watched
-/// for resets alone no mask is wanted: each span is so told where no tap between its readings asks
-/// for a reset, none came, and it had at most five events.
+/// mask other than 0. That no reset came isn't asked: the mask shows it. Such a span is reported
+/// with just the coins that the acceptor accepted between its readings. Of an acceptor that is
+/// watched for resets alone no mask is wanted: each span is so reported where no tap between its
+/// readings asks for a reset, none came, and it had at most five events.
 ///
 /// And a host can see to it. Whatever came before, over any wire, its 229 and its 230 without a
 /// fault show the credits and the mask of the acceptor. So a host that asks 229 and then 230 makes

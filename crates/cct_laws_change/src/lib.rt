@@ -56,7 +56,7 @@ pub fn each_order_is_counted()
 /// that the session fell short, they are worth what it shows as paid, and that and the rest are the
 /// amount. At every moment they are worth at most the amount. That the life counts don't fit an
 /// order is never reported. From the end of a session until the next one begins, what fell for its
-/// orders stays worth what its end told. `told` is of all entries of a step, whatever it is;
+/// orders stays worth what its end reported. `told` is of all entries of a step, whatever it is;
 /// `whole` says all this of one run, after each front of its steps; and by `moments` there is such
 /// a moment in every run, over any wire. It doesn't say that a session ever ends, nor that it is
 /// served where there are coins enough.
@@ -104,10 +104,11 @@ pub fn a_session_makes_few_payments()
 /// job of its payment can end: they have a `next` at its hopper for each of the job's rows, 7, and
 /// for each halt; no fault is set for its exchanges, the power isn't cut while it runs, and no coin
 /// is left to pay whenever the hopper is asked. The end that is reported among these entries is
-/// that the session was served, that it fell short, or that life counts don't fit, which an honest
-/// wire never tells. Whatever else the operator asks for in between doesn't hinder it. It doesn't
-/// say that the session is served; and where the power is cut after the record that opens an order,
-/// or three answers to one question are lost, a `serve` waits until the operator settles the order.
+/// that the session was served, that it fell short, or that life counts don't fit, which is never
+/// reported over an honest wire. Whatever else the operator asks for in between doesn't hinder it.
+/// It doesn't say that the session is served; and where the power is cut after the record that
+/// opens an order, or three answers to one question are lost, a `serve` waits until the operator
+/// settles the order.
 pub fn a_session_without_a_fault_ends()
     ensures { (capacity : ℕ) (setup : Setup) (steps : List Step) (past : List Entry) (desk : Desk) (tally : Tally)
         (blocks : List (List Step)) (end : List Entry) (last : Desk) (found : Tally)

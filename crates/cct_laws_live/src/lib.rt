@@ -1,4 +1,4 @@
-//! Laws of all live transcripts: what hosts send, record and tell, whatever is heard in their
+//! Laws of all live transcripts: what hosts send, record and report, whatever is heard in their
 //! exchanges, over any number of lives of the process over one journal. Each is a clause of a
 //! function without parameters, whose body is empty, as in `cct_laws`, and goes by a law there: a
 //! live transcript is what a legal one shows. Nothing is said of the devices.
@@ -57,7 +57,7 @@ ghost use Rattle.cct_laws.specs.Tries.{HasFewTries, ScanTriesAt, failed_in};
 ghost use Rattle.cct_laws_live.specs.Tries.{SeenTriesAt};
 
 /// A live transcript is what a legal one shows, whose steps are in range: the same entries, without
-/// the faults that were set and the entries that tell of a forged exchange. In the legal one the
+/// the faults that were set and the entries that report a forged exchange. In the legal one the
 /// bytes that were heard were set before each `next`. So what `cct_laws` says over any wire holds
 /// of live hosts too, as far as it speaks of no device.
 pub fn a_live_transcript_is_what_a_legal_one_shows()
@@ -65,9 +65,9 @@ pub fn a_live_transcript_is_what_a_legal_one_shows()
 {}
 
 /// All lives are one. A host that starts over a journal knows its records alone. What it then does,
-/// it also does after all that the earlier hosts told, in the same steps and with the same entries.
-/// Its start may be after any past, within a put or not. So what it tells after all that they told
-/// is live with it, and the laws below hold over all lives together.
+/// it also does after all that the earlier hosts reported, in the same steps and with the same
+/// entries. Its start may be after any past, within a put or not. So what it reports after all that
+/// they reported is live with it, and the laws below hold over all lives together.
 pub fn all_lives_are_one()
     ensures goes_on { (capacity : ℕ) (setup : Setup) (past news : List Entry) (at : Option CrashAt)
         (steps : List LiveStep) (end : List Entry)
@@ -205,8 +205,8 @@ pub fn each_route_is_sent_once()
 /// over all lives and any power cuts. Each reading and each break of an acceptor is of four replies
 /// that its job heard since its command was taken, in their turn: the accept counter, the credits,
 /// the inhibit mask, and the accept counter again. It posts the coins of that one reply of the
-/// credits: of the newest events, as many as the reply's counter tells since the event counter that
-/// was recorded, and at most five. It shows as lost how many coins the second accept counter tells
+/// credits: of the newest events, as many as the reply's counter shows since the event counter that
+/// was recorded, and at most five. It shows as lost how many coins the second accept counter shows
 /// since the one that was recorded, without those posted. A reading heard the same accept counter
 /// twice. The one at which an epoch begins was heard as well. Of a bill acceptor it is so with
 /// header 159 for the credits and bills for coins, and no bill is posted of an event that says that
@@ -227,8 +227,8 @@ pub fn what_is_posted_was_heard()
 /// hopper. The first one was heard in the job that opened the order, which may be one of an earlier
 /// life. The second one was heard in the job that closes it: since that began, and since it sent
 /// its dispense, if it did, the hopper was heard to have no coin left to pay, and then this life
-/// count. Paid are just as many coins as the two counts tell, modulo 2^24, and unpaid the others of
-/// its count; where they tell more than that, both counts are recorded. It is the order that is
+/// count. Paid are just as many coins as the two counts show, modulo 2^24, and unpaid the others of
+/// its count; where they show more than that, both counts are recorded. It is the order that is
 /// open then, so none is closed twice. In one life over any journal it is so of what was closed
 /// since the start; of an order that was found open the first count is the recorded one. It says
 /// nothing of coins: a hopper that lies about its life count makes any number of them paid.
@@ -244,10 +244,10 @@ pub fn what_is_closed_was_heard()
 
 /// No event is posted twice by the counters' own account, whatever the wire does: in the newest
 /// epoch of each acceptor, in every live and in every legal transcript. Its readings, and the break
-/// that may end it, together post at most as many coins as the event counters tell events, each
-/// from the recorded one to its own. They tell at most as many coins as lost as the accept counters
-/// tell. Posted and lost together are at least as many as the accept counters tell. Over a wire
-/// that lies they may be more: a coin is posted where an event counter shows it and no accept
+/// that may end it, together post at most as many coins as the event counters show events, each
+/// from the recorded one to its own. They report at most as many coins as lost as the accept
+/// counters show. Posted and lost together are at least as many as the accept counters show. Over a
+/// wire that lies they may be more: a coin is posted where an event counter shows it and no accept
 /// counter does, as in `one_round` of `proofs/Worked.antt`. In one life over any journal all this
 /// is so if it was so of the records that were found.
 pub fn no_event_is_posted_twice()
@@ -285,9 +285,9 @@ pub fn the_third_failed_try_ends_a_job_in_any_life()
 
 /// Where two live transcripts of one setup have the same text, they are the same, whatever their
 /// journals take: so whoever reads what the hosts printed knows all that they sent, heard, recorded
-/// and told. So it is with what two lives tell, each after its start over any journal. They are in
-/// bytes: the address of each `next`, the address and the mask of each command, and all that is
-/// heard. It says nothing of the steps, nor of two setups.
+/// and reported. So it is with what two lives report, each after its start over any journal. They
+/// are in bytes: the address of each `next`, the address and the mask of each command, and all that
+/// is heard. It says nothing of the steps, nor of two setups.
 pub fn a_text_tells_its_live_transcript()
     ensures live { (capacity room : ℕ) (setup : Setup) (steps others : List LiveStep) (first second : List Entry)
         → IsSoundSetup setup → IsInBytes capacity setup steps first → IsInBytes room setup others second

@@ -46,17 +46,17 @@ ghost use Rattle.cct_laws_live_devices.specs.Lives.{HaveLived, IsHonestLine, IsP
 
 use cct_live_port::Line;
 
-/// A world over which live hosts told a transcript, with devices that answer as the model's do, is
-/// what a bench says that plays some script: their commands, and between them what happened to the
-/// devices. So all that `cct_laws` promises of a bench's run holds of it.
+/// A world over which live hosts reported a transcript, with devices that answer as the model's do,
+/// is what a bench says that plays some script: their commands, and between them what happened to
+/// the devices. So all that `cct_laws` promises of a bench's run holds of it.
 pub fn a_world_of_live_hosts_is_a_run_of_a_bench()
     ensures { EachLive (λ capacity setup transcript. (world : List Entry) → OverDevices setup world (onto [] transcript)
         → IsPlayed capacity setup (mended setup world)) }
 {}
 
-/// The money is right of what live hosts told over devices that answer as the model's do. In one
-/// life over the records that it found it is so together with all that earlier hosts told, from a
-/// journal without records on.
+/// The money is right of what live hosts reported over devices that answer as the model's do. In
+/// one life over the records that it found it is so together with all that earlier hosts reported,
+/// from a journal without records on.
 pub fn no_coin_is_posted_twice_on_a_real_line()
     ensures live { EachLive (λ capacity setup transcript. (world : List Entry) → OverDevices setup world (onto [] transcript)
         → IsRightIn setup world (onto [] transcript)) }
@@ -75,10 +75,10 @@ pub fn lives_stand_behind_one_another()
         → IsWhole capacity setup left next (told ++ (news ++ whole)) }
 {}
 
-/// Questions that no host tells change nothing: who a device is, and which coins it knows. So where
-/// devices were asked them, the world without them is one in which devices answer as the model's
-/// do, and the laws above hold of it. The bytes of such a question ask nothing else of any device,
-/// under either check, damaged or not.
+/// Questions that no host reports change nothing: who a device is, and which coins it knows. So
+/// where devices were asked them, the world without them is one in which devices answer as the
+/// model's do, and the laws above hold of it. The bytes of such a question ask nothing else of any
+/// device, under either check, damaged or not.
 pub fn questions_may_be_left_out_of_a_world()
     ensures left_out { (setup : Setup) (world : List Moment) (past : List Entry) → OverAskedDevices setup world past
         → OverDevices setup (entries world) past }
@@ -129,9 +129,9 @@ pub fn what_is_heard_stands_in_some_world()
 /// Over an honest line no coin is posted twice or lost in silence, and no order is paid twice, over
 /// all lives of the hosts on it. Of a line is asked that each device on it does what the model's
 /// does and answers within the longest answer time or never, and that damage of the wire fails its
-/// check. Of the hosts is known that each life is one, and that the exchanges that it tells are
-/// those that its port gave; both are promised by `cct_live_service`. The coins are those that
-/// befell the devices on the line. A law: its body is empty.
+/// check. Of the hosts is known that each life is one, and that the exchanges that it reports are
+/// those that its port gave; both are promised by `cct_live_service`. The coins are those of all
+/// that happened to the devices on the line. A law: its body is empty.
 pub fn over_an_honest_line_the_money_is_right<L: Line>()
     ensures { (echoes : Bool) (longest : ℕ) (coming : L → List ℕ) (silent : L → ℕ) (capacity : ℕ) (setup : Setup)
         (history : L → List Moment) → IsSoundSetup setup
@@ -144,8 +144,8 @@ pub fn over_an_honest_line_the_money_is_right<L: Line>()
         × IsPortOf L.reads L.writes echoes longest coming silent last }
 {}
 
-/// A port that was just made, is told of the echo and waits for the longest time is one of any
-/// honest line. A law: its body is empty.
+/// A port that was just made, whose options say whether the line echoes, and which waits for the
+/// longest time, is one of any honest line. A law: its body is empty.
 pub fn a_new_port_is_of_any_line<L: Line>()
     ensures { (longest : ℕ) (coming : L → List ℕ) (silent : L → ℕ) (port : Port L) → settled port ≡ false
         → silent_of port ≡ 0 → longest ≤ (options_of port).longest

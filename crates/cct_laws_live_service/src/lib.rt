@@ -38,8 +38,8 @@ use cct_live_port::Line;
 use cct_wire::Link;
 
 /// Where a service lived over a port of an honest line, no coin is posted twice or lost in silence,
-/// and no order is paid twice, in all that it and those before it told. The next one may start over
-/// what it left, and the same is promised of that. A law: its body is empty.
+/// and no order is paid twice, in all that it and those before it reported. The next one may start
+/// over what it left, and the same is promised of that. A law: its body is empty.
 pub fn a_service_over_an_honest_line_is_right<L: Line, K: Sink, D: Disk>()
     ensures { (echoes : Bool) (longest : ℕ) (coming : L → List ℕ) (silent : L → ℕ) (setup : Setup)
         (history : L → List Moment) → IsSoundSetup setup → IsHonestLine L.reads L.writes echoes longest coming silent setup history
@@ -59,8 +59,8 @@ pub fn a_service_over_an_honest_line_is_right<L: Line, K: Sink, D: Disk>()
         (records (news ++ (news_of service.told ++ whole))) (news ++ (news_of service.told ++ whole))) }
 {}
 
-/// Where the money of what such a service told is right over what fell, so is what it told of
-/// sessions of change, if no session ran when it began: the coins that fell for the orders of a
+/// Where the money of what such a service reported is right over what fell, so is what it reported
+/// of sessions of change, if no session ran when it began: the coins that fell for the orders of a
 /// session are worth its amount where it was served, and what is reported as paid where it falls
 /// short, and they are never worth more than its amount. They are all coins that fell up to the end
 /// of the service. A law: its body is empty.
@@ -97,11 +97,11 @@ pub fn the_next_service_starts_over_what_is_left<L: Line, K: Sink, D: Disk>()
         → Tells D.honest D.seen D.may_leave next setup starts.left) }
 {}
 
-/// A service may be killed at each moment. At each point between two of its steps what it told by
-/// then is a life, with the money right, and what may be left on the disk by then shows the records
-/// over which the next life starts, as above. And whatever a power cut at a moment of the service
-/// might have left, if its disk held one image alone, is what may be left at one of these points,
-/// or a journal that is just being made. A law: its body is empty.
+/// A service may be killed at each moment. At each point between two of its steps what it reported
+/// by then is a life, with the money right, and what may be left on the disk by then shows the
+/// records over which the next life starts, as above. And whatever a power cut at a moment of the
+/// service might have left, if its disk held one image alone, is what may be left at one of these
+/// points, or a journal that is just being made. A law: its body is empty.
 pub fn a_service_may_be_killed_at_each_moment<L: Line, K: Sink, D: Disk>()
     ensures { (echoes : Bool) (longest : ℕ) (coming : L → List ℕ) (silent : L → ℕ) (setup : Setup)
         (history : L → List Moment) → IsSoundSetup setup

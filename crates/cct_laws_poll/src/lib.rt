@@ -28,7 +28,7 @@ pub fn a_start_begins_a_life()
 {}
 
 /// What is reported while a program gives commands, says what it heard, and makes the calls on its
-/// part, is what a live host tells in some steps, whatever is heard: so all that `cct_laws_live`
+/// part, is what a live host reports in some steps, whatever is heard: so all that `cct_laws_live`
 /// says of one life holds of it. A law: its body is empty.
 pub fn a_run_is_a_life()
     ensures { (found : List Record) (deeds : List Deed) (steps : List LiveStep) (past : List Entry) (before after : Poll)
@@ -38,7 +38,7 @@ pub fn a_run_is_a_life()
 {}
 
 /// After a step each image that a part might have had while the calls that it notes were made, in
-/// their order, stands for the records of the past, or for these and the one that the step puts.
+/// their order, represents the records of the past, or these and the one that the step puts.
 /// `make_calls` of `cct_disk_queue` says that a part has no other (`Since`). A law: its body is
 /// empty.
 pub fn a_part_keeps_the_records()

@@ -1,4 +1,4 @@
-//! Laws of bills in an escrow: what the end of a `route` tells of the bill that was held, and what
+//! Laws of bills in an escrow: what the end of a `route` says of the bill that was held, and what
 //! becomes of each bill that is ever held. Each is a clause of a function without parameters, whose
 //! body is empty, as in `cct_laws`. What a bill acceptor holds is read off all that it met, so
 //! whatever the wire does the laws on the escrow itself hold.
@@ -63,7 +63,7 @@ pub fn a_route_without_a_fault_ends_by_what_is_held()
 /// are just as many as the accept counter counts. The coins among the events, as they are judged,
 /// are just the bills that were stacked since the last reset: so no bill is both given back and
 /// credited, nor one that is held. That needs places from 1 on, which all bills of a legal
-/// transcript have. The lines `held` of a legal transcript tell just the bills that were held,
+/// transcript have. The lines `held` of a legal transcript show just the bills that were held,
 /// whatever its wire does.
 pub fn each_held_bill_leaves_once()
     ensures in_order { (past : List Met) → held_bills past ≡ in_escrow past

@@ -46,7 +46,7 @@ pub enum CaptureLine {
 /// What a line of a capture says, without its line feed: `watch` or `begin` before the line
 /// `begin`, and after it, where `begun` is true, `tap` or `end`. `Word` where the first field is no
 /// word of these, else `Form` where the line isn't in a form of its word. A line so read may still
-/// name an address again, or one device too many; the caller has to tell.
+/// name an address again, or one device too many; the caller has to find that out.
 #[tactic(auto, unfolding(crate::specs::Capture::capture_line))]
 pub fn read_capture_line(begun: bool, line: &[u8]) -> Result<CaptureLine, LineKind>
     ensures reads { result ≡ capture_line begun line.now }

@@ -5,8 +5,8 @@ ghost use Rattle.cct_model_lines.specs.Exchange.{device_at, hopper_there, known_
 
 use cct_model_lines::{Happening, Setup, Step};
 
-/// Whether the device that a step befalls is there and of a family that knows that, and whether the
-/// stock that it tells is a hopper's.
+/// Whether the device to which a step happens is there and of a family that knows that, and whether
+/// the stock that it gives is a hopper's.
 pub(crate) fn knows(setup: &Setup, step: &Step) -> bool
     ensures { result ≡ is_known setup.now step.now }
 {

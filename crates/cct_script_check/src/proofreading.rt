@@ -102,7 +102,7 @@ fn is_refused(looked: Looked) -> bool
     matches!(looked, Looked::Refused(_))
 }
 
-/// Tells a line that was looked at, where it is refused.
+/// Reports a line that was looked at, where it is refused.
 #[tactic(auto, using(cct_text::proofs::Writing::wrote_none))]
 fn tell_looked<K: Sink>(
     out: &mut K,
@@ -156,7 +156,7 @@ fn end_of(has_told: bool) -> ProofEnd
     }
 }
 
-/// Tells a line that is refused.
+/// Reports a line that is refused.
 #[tactic(auto, using(cct_text::proofs::Writing::writes_one))]
 fn tell<K: Sink>(
     out: &mut K,

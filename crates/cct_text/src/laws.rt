@@ -16,7 +16,7 @@ ghost use Rattle.cct_text.specs.Reading.{parts_at, read_fields, read_text};
 ghost use Rattle.cct_text.specs.ScriptLine.{IsTyped, command_line};
 ghost use Rattle.cct_text.specs.Written.{IsWritten};
 
-/// The fields of a line, cut at its spaces, tell the entry.
+/// The fields of a line, cut at its spaces, give the entry.
 pub fn fields_tell_the_entry()
     ensures { (e : Entry) → IsWritten e →
         read_fields (parts_at 32 (join_with_byte 32 (fields_of e))) ≡ Some e }
@@ -28,7 +28,7 @@ pub fn one_line_is_one_entry()
         → first ≡ second }
 {}
 
-/// The lines of a text, cut at its line feeds, tell the transcript; so two transcripts with one
+/// The lines of a text, cut at its line feeds, give the transcript; so two transcripts with one
 /// text are the same.
 pub fn one_text_is_one_transcript()
     ensures read { (entries : List Entry) → All IsWritten entries → read_text (text entries)

@@ -92,8 +92,8 @@ fn write_lives(line: &mut TextLine, id: u32, before: u32, after: u32)
     );
 }
 
-/// Writes what a reading or a break tells of coins, as the next three fields: how many are lost,
-/// the accept counter, and the coins posted.
+/// Writes what a reading or a break says of coins, as the next three fields: how many are lost, the
+/// accept counter, and the coins posted.
 fn write_coins_told(line: &mut TextLine, lost: u32, accepts: u32, coins: &[Coin])
     requires few { length coins.now ≤ EVENTS }
     requires room { length line.old + 82 ≤ MOST_TEXT }

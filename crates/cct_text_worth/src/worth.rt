@@ -1,4 +1,4 @@
-//! The value that the identification of a coin tells (ccTalk Generic Specification 4, part 3,
+//! The value that the identification of a coin gives (ccTalk Generic Specification 4, part 3,
 //! appendix on coins).
 ghost use Rattle.std.specs.Prelude.{◌≡◌, ◌≤◌, IfSome};
 ghost use Rattle.cct_text_worth.specs.Worth.{bill_figures, bill_value, digit_told, figures_told};
@@ -7,7 +7,7 @@ ghost use Rattle.cct_text_worth.specs.Worth.{in_range, is_country, two_told, val
 /// The greatest value of a coin.
 const MOST_VALUE: u32 = 1_000_000;
 
-/// The value that an identification tells, in the units in which `EU100A` tells 100. It has two
+/// The value that an identification gives, in the units in which `EU100A` is 100. It has two
 /// capital letters of a country, three figures, and a letter of the issue. The figures are three
 /// digits, or two with a `K` (thousand) or an `M` (million) at the place of the decimal point:
 /// `050` is 50, `1K5` is 1,500, `20K` is 20,000, `M10` is 100,000. None where the figures are no
