@@ -128,8 +128,8 @@ fn play_taps<S: Source, K: Sink>(
 /// Audits a capture: reads it to its end, a line at a time, and writes what a monitor of its
 /// devices says, at each tap before the next line is read, and at the end. A line that is refused,
 /// a fault in reading and a fault in writing end it at once, and then what is said at the end isn't
-/// written. It takes no memory. The monitor is a new one; afterwards it tells how many taps were
-/// for each device.
+/// written. It takes no memory. The monitor is a new one; afterwards it says how many taps were for
+/// each device.
 pub fn audit<S: Source, K: Sink>(
     script: &mut S,
     out: &mut K,

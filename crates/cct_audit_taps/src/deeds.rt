@@ -107,7 +107,7 @@ fn own_deed(kind: CheckKind, addr: u8, sent: &[u8], heard: &[u8]) -> Deed
     }
 }
 
-/// The serial number that a reply tells.
+/// The serial number that a reply gives.
 fn serial_deed(reply: Option<Reply<'_>>) -> Deed
     ensures { result ≡ serial_deed (option_map reply_shown reply.entry) }
 {
@@ -138,7 +138,7 @@ fn status_deed(reply: Option<Reply<'_>>) -> Deed
     }
 }
 
-/// The life count that a reply tells.
+/// The life count that a reply gives.
 fn life_deed(reply: Option<Reply<'_>>) -> Deed
     ensures { result ≡ life_deed (option_map reply_shown reply.entry) }
 {

@@ -40,7 +40,7 @@ pub struct KnownLife {
     pub most: u32,
     /// How many fell at least.
     pub least: u8,
-    /// Whether a payout has begun since, so that what is told to be paid fell since.
+    /// Whether a payout has begun since, so that what is reported as paid fell since.
     pub has_begun: bool,
 }
 
@@ -228,7 +228,7 @@ fn paid_since(paid: u8, known: Option<KnownLife>) -> Option<KnownLife>
     })
 }
 
-/// How many coins fell at least, where so many are told to be paid.
+/// How many coins fell at least, where so many are reported as paid.
 fn least_of(begun: bool, paid: u8, least: u8) -> u8
     ensures { result ≡ least_of begun paid least }
 {
@@ -356,7 +356,8 @@ fn tell_enable(addr: u8, number: u32, shut: Option<u32>, report: &mut ArrayVec<S
     }
 }
 
-/// Reports a life count that rose by more than could fall, or by less than was told to have fallen.
+/// Reports a life count that rose by more than could fall, or by less than was reported to have
+/// fallen.
 fn tell_life(
     addr: u8,
     number: u32,
@@ -379,7 +380,7 @@ fn tell_life(
     }
 }
 
-/// Whether a rise of the life count fits what could fall, and what was told to have fallen.
+/// Whether a rise of the life count fits what could fall, and what was reported to have fallen.
 fn rise_fits(rise: u32, life: &KnownLife) -> bool
     ensures { result ≡ rise_fits rise life.now }
 {

@@ -1,4 +1,4 @@
-//! The money that an acceptor takes in, and how what a bill acceptor tells is credited (ccTalk
+//! The money that an acceptor takes in, and how what a bill acceptor reports is credited (ccTalk
 //! Generic Specification 4, part 3, header 159).
 ghost use Rattle.std.specs.Prelude.{◌≡◌};
 ghost use Rattle.cct_model.specs.Job.{settled, settled_events};
@@ -21,7 +21,7 @@ const HELD: u8 = 1;
 /// The event of a bill that wasn't accepted.
 const RETURNED: Pair = Pair { a: 0, b: 1 };
 
-/// What a bill acceptor told, as it is credited.
+/// What a bill acceptor reported, as it is credited.
 pub(crate) fn settled_credits(credits: Credits) -> Credits
     ensures { result ≡ settled_events credits }
 {

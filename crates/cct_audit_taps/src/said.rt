@@ -32,7 +32,7 @@ pub enum Premise {
 #[derive(Clone, Drop, PartialEq, Eq)]
 pub enum Said {
     /// The acceptor accepted these coins between its two readings, oldest first: those among as
-    /// many of the newest events as the two event counters tell, at most five (ccTalk Generic
+    /// many of the newest events as the two event counters show, at most five (ccTalk Generic
     /// Specification 4, part 2, header 229).
     Sure {
         addr: u8,

@@ -112,7 +112,7 @@ fn of_bills(money: Money, sign: Sign) -> Sign
     }
 }
 
-/// The events that a reply tells.
+/// The events that a reply gives.
 fn events_sign(reply: Option<Reply<'_>>) -> Sign
     ensures { result ≡ events_sign (option_map reply_shown reply.entry) }
 {
@@ -122,7 +122,7 @@ fn events_sign(reply: Option<Reply<'_>>) -> Sign
     }
 }
 
-/// The inhibit mask that a reply tells.
+/// The inhibit mask that a reply gives.
 fn mask_sign(reply: Option<Reply<'_>>) -> Sign
     ensures { result ≡ mask_sign (option_map reply_shown reply.entry) }
 {

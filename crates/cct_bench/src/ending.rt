@@ -1,4 +1,4 @@
-//! How a run ends: each cause of an end, and the status and the last line that tell it.
+//! How a run ends: each cause of an end, and the status and the last line that report it.
 ghost use Rattle.std.specs.Prelude.{◌≡◌, ◌⊎◌, ◌∷◌, [], Result};
 ghost use Rattle.cct_edge.specs.Bytes.{Serves};
 ghost use Rattle.cct_edge.specs.declared.fault.Failed.{Failed};
@@ -114,7 +114,7 @@ pub fn finish_run<K: Sink>(how: &Ending, out: &mut K, line: &mut TextLine) -> St
     }
 }
 
-/// Writes a last line, and gives the status that it tells, or that of a fault in writing.
+/// Writes a last line, and gives the status that it reports, or that of a fault in writing.
 pub fn close<K: Sink>(out: &mut K, line: &mut TextLine, entry: &Entry, status: Status) -> Status
     ensures writes { (answer : Result (Unit {0}) Failed)
         × Writes K.written K.puts out.old (entry.now ∷ []) answer out.new × (result ≡ status_by answer status) }

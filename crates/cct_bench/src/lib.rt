@@ -90,7 +90,7 @@ pub fn bench<S: Source, K: Sink, D: Disk>(
     out: &mut K,
     disk: D,
 ) -> (Status, D)
-    // With the word `run`: what was taken, played and written, of the bytes that the source tells,
+    // With the word `run`: what was taken, played and written, of the bytes that the source shows,
     // or of some where it shows none; that over an honest wire the posts of each device are in
     // order and cover its coins, and each order of a hopper is paid at most once, where the disk
     // was trusted or no power cut is reported, and over any disk up to the first power cut; over
@@ -191,7 +191,7 @@ pub fn bench<S: Source, K: Sink, D: Disk>(
     ensures memory_place { result.0 ≡ Status.OutOfMemory →
         (script.new ≡ script.old) ⊎ TookSetup S.takes S.left script.old script.new }
 
-    // Source, sink and disk go on telling, and no count falls.
+    // Source, sink and disk show their bytes afterwards where they did before, and no count falls.
     ensures source_goes_on { Serves S.left S.faults script.old script.new ⊥ }
     ensures sink_goes_on { Serves K.written K.faults out.old out.new ⊥ }
     ensures disk_goes_on { DiskServes D.size D.honest D.seen D.cuts D.faults disk result.1 ⊥ ⊥ }

@@ -136,7 +136,7 @@ fn tell<K: Sink, D: Disk>(
     (finish_state(how, out, line), disk)
 }
 
-/// Ends a state whose telling ended so: its last line is written where it has one.
+/// Ends a state whose writing ended so: its last line is written where it has one.
 fn finish_state<K: Sink>(how: StateEnd, out: &mut K, line: &mut TextLine) -> Status
     ensures writes { (answer : Result (Unit {0}) Failed)
         × Writes K.written K.puts out.old (line_behind_state how) answer out.new

@@ -1,4 +1,4 @@
-//! What the records tell of one address.
+//! What the records say of one address.
 ghost use Rattle.std.specs.Prelude.{◌≡◌, ◌+◌, ◌-◌, ◌^◌, ℕ};
 ghost use Rattle.cct_model.specs.Order.{order_by};
 ghost use Rattle.cct_model.specs.Sums.{coins_paid};
@@ -7,8 +7,8 @@ ghost use Rattle.cct_bench_state.specs.Account.{IsWithin, account_in, account_wi
 use cct_journal_carry::{epoch_by, epoch_held, order_held};
 use cct_model::{Carry, EpochState, OpenOrder, Record};
 
-/// The epoch and the open order at an address, and how many coins were posted, told to be lost, and
-/// paid there since the journal last turned.
+/// The epoch and the open order at an address, and how many coins were posted, recorded as lost,
+/// and paid there since the journal last turned.
 #[derive(Clone, Copy)]
 pub(crate) struct Account {
     pub(crate) addr: u8,
@@ -38,7 +38,7 @@ impl Default for Account {
 }
 
 impl Account {
-    /// What a carry tells of an address: nothing came there since.
+    /// What a carry says of an address: nothing came there since.
     pub(crate) fn of(carry: &Carry, addr: u8) -> Account
         ensures { result ≡ account_in carry.now addr }
     {
@@ -101,7 +101,7 @@ fn order_by(entry: &Record, before: Option<OpenOrder>) -> Option<OpenOrder>
     }
 }
 
-/// How many coins a record tells to be paid.
+/// How many coins a record reports as paid.
 fn coins_paid(entry: &Record) -> u8
     ensures { result ≡ coins_paid entry.now }
 {

@@ -13,7 +13,7 @@ use cct_bench_report::Sums;
 use cct_journal_carry::{Tally, id_of};
 use cct_model::{Carry, Record, Setup};
 
-/// What the records tell so far: of each address, the greatest id, the sums over all, and, where a
+/// What the records say so far: of each address, the greatest id, the sums over all, and, where a
 /// setup is given, what they are worth.
 #[derive(Drop)]
 pub(crate) struct Books<'s> {

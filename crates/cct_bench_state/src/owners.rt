@@ -13,7 +13,7 @@ use cct_model::{Carry, HOST, Record};
 /// How many addresses there are.
 pub(crate) const ADDRESSES: usize = 256;
 
-/// What a carry tells of all addresses.
+/// What a carry says of all addresses.
 pub(crate) fn accounts_of(carry: &Carry) -> ArrayVec<Account, ADDRESSES>
     ensures { result.items ≡ map (account_in carry.now) all_addresses }
 {

@@ -22,7 +22,7 @@ use cct_journal::{Journal, MOST_RECORDS, OpenNo, ReadNo};
 use cct_model::Setup;
 use cct_text::TextLine;
 
-/// How the telling of a state came to its end.
+/// How the writing of a state came to its end.
 #[derive(Drop)]
 pub enum StateEnd {
     /// The whole state was written.
@@ -36,7 +36,7 @@ pub enum StateEnd {
 }
 
 /// Says what the journal on a disk knows now, a line by each put; the disk is only read, and given
-/// back. By a setup the money is told too, and a journal that another machine wrote is refused.
+/// back. By a setup the money is reported too, and a journal that another machine wrote is refused.
 ///
 /// Nothing is written before the last record is read.
 pub fn tell_state<K: Sink, D: Disk>(
@@ -46,7 +46,7 @@ pub fn tell_state<K: Sink, D: Disk>(
     disk: D,
 ) -> (StateEnd, D)
     requires sound { IfSome setup (λ setup. IsSoundSetup setup.now) }
-    // what the image of the disk tells, and what was written of it
+    // what the image of the disk shows, and what was written of it
     ensures told { (image : List ℕ) → D.seen disk ≡ Some image
         → Tells (of_image image) (option_map (λ s. s.now) setup.entry) result.0
         (λ lines answer. WritesLines K.written K.puts out.old lines answer out.new) }

@@ -18,7 +18,7 @@ use cct_journal_carry::Tally;
 use cct_model::{Entry, EpochState, OpenOrder};
 use cct_text::{TextLine, write_entry};
 
-/// Writes what books tell, a line by each put.
+/// Writes what books show, a line by each put.
 pub(crate) fn write_state<K: Sink>(
     out: &mut K,
     line: &mut TextLine,

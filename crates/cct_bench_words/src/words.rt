@@ -25,10 +25,10 @@ pub enum Words {
     /// Audit the capture on standard input: say which coins were surely accepted, and how many
     /// fell.
     Audit,
-    /// Read the script on standard input to its end, and tell each line of it that is refused.
+    /// Read the script on standard input to its end, and report each line of it that is refused.
     Check,
-    /// Tell what the journal knows now, and its money by the setup on standard input, where one is
-    /// given.
+    /// Report what the journal knows now, and its money by the setup on standard input, where one
+    /// is given.
     State,
     /// Play a load that a number makes, of so many rounds: 1 to 10,000.
     Load { seed: u64, rounds: u32 },

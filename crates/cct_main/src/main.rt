@@ -81,7 +81,7 @@ fn answer(rt: &HostRuntime, call: &Call<'_>) -> End {
     }
 }
 
-/// Does what a call wants that reads a script or a journal, and tells on standard error what there
+/// Does what a call wants that reads a script or a journal, and writes on standard error what there
 /// is to say of the end.
 fn play(rt: &HostRuntime, call: &Call<'_>) -> End {
     let mut script = KeptSource::new(StdSource::new(rt.reader()));
@@ -157,7 +157,8 @@ fn audit(rt: &HostRuntime) -> Status {
     status
 }
 
-/// Tells each line of the script that is refused, and says on standard error what is wrong with it.
+/// Reports each line of the script that is refused, and says on standard error what is wrong with
+/// it.
 // In a frame of its own it takes no room where a script is played.
 #[inline(never)]
 fn check(rt: &HostRuntime, call: &Call<'_>) -> Status {

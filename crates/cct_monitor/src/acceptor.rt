@@ -138,8 +138,8 @@ pub(crate) fn fits(last: &LastReading, counter: u8) -> bool
     !last.was_set && are_near(last.counter, counter)
 }
 
-/// Whether two event counters tell all events between their readings: the later one isn't back at
-/// 0, and they tell no more than the credit buffer keeps.
+/// Whether two event counters show all events between their readings: the later one isn't back at
+/// 0, and they show no more than the credit buffer keeps.
 fn are_near(first: u8, last: u8) -> bool
     ensures { result ≡ are_near first last }
 {

@@ -70,8 +70,8 @@ impl Monitor {
         self.devices.len()
     }
 
-    /// What is told of the watched device of a place, from 0 and in rising order of address: how
-    /// many taps were for it. None where there is none.
+    /// What is reported of the watched device of a place, from 0 and in rising order of address:
+    /// how many taps were for it. None where there is none.
     pub fn heard(&self, place: usize) -> Option<Heard>
         ensures { (past : List Came) → StandsFor self.now past → result
             ≡ slice_get (map heard_of (accounts past)) place }

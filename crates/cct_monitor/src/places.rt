@@ -63,7 +63,7 @@ pub(crate) fn finish_devices(devices: &[Watched], report: &mut ArrayVec<Said, WA
     }
 }
 
-/// What is told of the device at a place, or none where there is none.
+/// What is reported of the device at a place, or none where there is none.
 pub(crate) fn heard_at(devices: &[Watched], place: usize) -> Option<Heard>
     ensures { result ≡ slice_get (map heard_as devices.now) place }
 {

@@ -118,7 +118,7 @@ impl Watched {
         }
     }
 
-    /// What is told of the device.
+    /// What is reported of the device.
     pub(crate) fn heard(&self) -> Heard
         ensures { result ≡ heard_as self.now }
     {

@@ -266,8 +266,8 @@ impl<D: Disk> Machine<'_, D> {
         }
     }
 
-    /// The host is given a payment of the session at the desk. Where it refuses it, the session
-    /// ends short.
+    /// The host is given a payment of the operator's session. Where it refuses it, the session ends
+    /// short.
     fn pay(&mut self, payment: Payment, report: &mut ArrayVec<Entry, 8>)
         requires own { option_map (λ s. s.next) (desk_of self.old).session ≡ Some payment.id }
         requires one { array_vec_len report.old ≡ 1 }
@@ -335,7 +335,7 @@ impl<D: Disk> Machine<'_, D> {
     }
 }
 
-/// Leaves one entry in a report: the first one that a step tells takes its place.
+/// Leaves one entry in a report: the first one of a step replaces it.
 fn keep_one(report: &mut ArrayVec<Entry, 8>)
     ensures { array_vec_len report.new ≡ 1 }
 {
@@ -345,7 +345,7 @@ fn keep_one(report: &mut ArrayVec<Entry, 8>)
     }
 }
 
-/// Tells one entry, in the place of the one that a report has.
+/// Replaces the one entry that a report has.
 #[inline(always)]
 #[tactic(auto, using(crate::proofs::Steps::set_alone))]
 fn tell_alone(report: &mut ArrayVec<Entry, 8>, entry: Entry)
@@ -358,8 +358,8 @@ fn tell_alone(report: &mut ArrayVec<Entry, 8>, entry: Entry)
     }
 }
 
-/// Says that the exchange which entries begin with was forged, where that is so: the bus tells it
-/// of its last exchange.
+/// Says that the exchange which entries begin with was forged, where that is so: the bus says it of
+/// its last exchange.
 fn tell_forged(bus: &Bus<'_>, report: &mut ArrayVec<Entry, 8>)
     requires room { length report.old.items < 8 }
     ensures { TellsForged bus.now report.old.items report.new.items }
@@ -369,8 +369,8 @@ fn tell_forged(bus: &Bus<'_>, report: &mut ArrayVec<Entry, 8>)
     }
 }
 
-/// Tells of the exchange which entries begin with that it was forged. Without one nothing is
-/// reported. An entry is wide: in a function of its own it is made where it is reported.
+/// Reports that the exchange which entries begin with was forged. Without one nothing is reported.
+/// An entry is wide: in a function of its own it is made where it is reported.
 #[inline(never)]
 fn add_forged(report: &mut ArrayVec<Entry, 8>)
     requires room { length report.old.items < 8 }

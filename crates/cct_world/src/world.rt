@@ -24,8 +24,8 @@ use cct_model::{Entry, Setup, Step, Totals};
 use std::alloc::{AllocError, AllocFailed, Global};
 
 /// The machine that a script plays on: the devices on their wire, the host over its journal, and
-/// the operator's desk. Its contracts tell it by the transcript of all that happened on it, newest
-/// entry first, and by what is known at the desk.
+/// the operator's desk. Its contracts describe it by the transcript of all that happened on it,
+/// newest entry first, and by the operator's session and trays.
 #[derive(Drop)]
 pub struct World<'s, D: Disk> {
     machine: Box<Machine<'s, D>>,
