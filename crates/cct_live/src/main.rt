@@ -172,7 +172,7 @@ fn setup_of<R: Files + Eprint>(rt: &R, path: &str) -> Result<Setup, Stop>
     }
 }
 
-/// Says on standard error which two devices can't be told apart by their replies.
+/// Says on standard error which two devices can't be distinguished by their replies.
 fn warn_of_twins(rt: &HostRuntime, setup: &Setup) {
     if let Some((one, other)) = crc_twins(setup) {
         let _ = eprintln!(rt;

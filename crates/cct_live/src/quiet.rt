@@ -8,7 +8,7 @@ use cct_edge::{Failed, Sink};
 const WIRE: &[u8] = b"wire ";
 
 /// A sink over another one. Where it is quiet, a put that begins with `wire ` is left out, and
-/// counts as done. As a sink it tells nothing of its bytes.
+/// counts as done. As a sink it shows nothing of its bytes.
 #[derive(Drop)]
 pub(crate) struct QuietSink<K> {
     sink: K,

@@ -36,8 +36,8 @@ pub(crate) fn call_first<L: CountedLink + Drop, K: Sink>(
     Ok(link)
 }
 
-/// Asks the first questions of the roll until one comes back whole. A port that fails is told of by
-/// the service.
+/// Asks the first questions of the roll until one comes back whole. A port that fails is reported
+/// by the service.
 fn hear_echo<L: CountedLink + Drop>(setup: &Setup, roll: &mut Roll, link: L) -> Result<L, Stop> {
     let mut link = Listening::new(link);
     for _ in 0..FIRST_TRIES {

@@ -33,7 +33,7 @@ const ADOPT: &str =
 /// What the program is to do.
 #[derive(Clone, Copy)]
 pub(crate) enum Words<'w> {
-    /// To be the host of the machine that a setup file tells, over a journal.
+    /// To be the host of the machine that a setup file describes, over a journal.
     Host(HostWords<'w>),
     /// To write a setup of what is on a line.
     Draft { line: LineWords<'w> },

@@ -26,18 +26,18 @@ pub enum Drafted {
 
 /// Searches a line for devices, and writes a setup of them: a line for each acceptor of coins or
 /// bills and each hopper, a `value` line for each coin and each bill whose value is reported, and
-/// `begin`. What it can't tell goes to `notes`, a line each; and of a device of another kind, or
+/// `begin`. What it can't say goes to `notes`, a line each; and of a device of another kind, or
 /// without a serial number, nothing else is written. Before each address that is tried `notes` gets
 /// a line `address 7 of 24`.
 ///
 /// All devices are polled under both checks. Each address that answers is asked, and beside them 2
 /// to 17 and 40 to 47, since some devices don't know that poll. Each message is sent three times at
-/// most. A coin is worth what its identification tells (header 184), a bill its figures times the
-/// scaling of its country (157 and 156), and a hopper's coins what it tells of them (171, else
-/// 131). A value is in units of the last decimal place that the devices count in, cents where
-/// `EU100A` tells 100 and the scaling of `EU` is 100. A hopper that doesn't tell the value of its
-/// coins, or that has several coins, gets a 0, which is none: nothing reads such a setup before a
-/// person has written the value.
+/// most. A coin is worth what its identification says (header 184), a bill its figures times the
+/// scaling of its country (157 and 156), and a hopper's coins what it says of them (171, else 131).
+/// A value is in units of the last decimal place that the devices count in, cents where `EU100A` is
+/// 100 and the scaling of `EU` is 100. A hopper that doesn't say the value of its coins, or that
+/// has several coins, gets a 0, which is none: nothing reads such a setup before a person has
+/// written the value.
 pub fn draft<L: Link, K: Sink, N: Sink>(
     link: &mut L,
     out: &mut K,

@@ -9,14 +9,14 @@ use cct_text::TextLine;
 use cct_text_worth::value_told;
 use cct_wire::Link;
 
-/// What a hopper tells of the value of its coins.
+/// What a hopper says of the value of its coins.
 #[derive(Clone, Copy)]
 enum Worth {
     /// Each is worth so much, 1 to 1,000,000.
     Each(u32),
     /// It has several coins.
     Several,
-    /// It doesn't tell it.
+    /// It doesn't say it.
     Untold,
 }
 
@@ -47,7 +47,7 @@ pub(crate) fn draft_hopper<L: Link, K: Sink, N: Sink>(
     }
 }
 
-/// What a hopper tells of the value of its coins: by their identification, else by the value of the
+/// What a hopper says of the value of its coins: by their identification, else by the value of the
 /// first of its coins, where it has no second one.
 fn worth_of<L: Link>(kind: CheckKind, addr: u8, link: &mut L, room: &mut Room) -> Worth
     ensures inquires { (first : L) → Inquires L.gives first link.old →
@@ -65,7 +65,7 @@ fn worth_of<L: Link>(kind: CheckKind, addr: u8, link: &mut L, room: &mut Room) -
     }
 }
 
-/// The value that the identification of a hopper's coins tells.
+/// The value that the identification of a hopper's coins gives.
 fn told_by_id<L: Link>(kind: CheckKind, addr: u8, link: &mut L, room: &mut Room) -> Option<u32>
     ensures inquires { (first : L) → Inquires L.gives first link.old →
         Inquires L.gives first link.new }

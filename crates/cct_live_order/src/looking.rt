@@ -11,7 +11,7 @@ use cct_disk::Disk;
 use cct_journal::{Journal, OpenNo};
 use cct_model::Record;
 
-/// What the records since the last turn of the journal on a disk tell of the order of an id; or why
+/// What the records since the last turn of the journal on a disk say of the order of an id; or why
 /// they can't be read. The disk is only read, and given back.
 ///
 /// An order that an earlier record opened or closed is unknown then, and so is one that was never
@@ -33,7 +33,7 @@ pub fn order_on<D: Disk>(disk: D, id: u32) -> (Result<OrderTold, OpenNo>, D)
     }
 }
 
-/// What the records that a journal keeps one by one tell of the order of an id.
+/// What the records that a journal keeps one by one say of the order of an id.
 fn look<D: Disk>(journal: &mut Journal<D>, id: u32) -> Result<OrderTold, OpenNo>
     ensures all { IfOk result (IsKnownBy (journals.JournalReadsFrom journal.old) id) }
     ensures refused { IfErr result (λ why. (rest : List Record) → journals.JournalReadsFrom journal.old rest

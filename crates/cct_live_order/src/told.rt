@@ -1,4 +1,4 @@
-//! What is told of an order.
+//! What is reported of an order.
 ghost use Rattle.std.specs.Prelude.{◌≡◌};
 ghost use Rattle.cct_record.specs.Body.{Encodable};
 ghost use Rattle.cct_live_order.specs.Told.{told_after};

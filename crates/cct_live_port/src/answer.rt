@@ -43,7 +43,7 @@ fn is_reply(asked: &FrameView<'_>, reply: &FrameView<'_>) -> bool
 }
 
 /// Whether so many bytes came after the echo as the message that they begin has, by the length that
-/// it tells.
+/// it gives.
 pub(crate) fn is_complete(rest: &[u8]) -> bool
     ensures { result ≡ is_complete rest.now }
 {

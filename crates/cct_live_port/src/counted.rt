@@ -27,7 +27,7 @@ pub trait CountedLink: Link {
     fn was_sent(&self) -> bool
         ensures { result ≡ sent self.now };
 
-    /// Whether the last exchange brought the whole reply to its message, as far as its form tells:
+    /// Whether the last exchange brought the whole reply to its message, as far as its form shows:
     /// after the echo one message under the same check, to the host, from the device or from nobody
     /// named. So it is no after an address poll, and before the first exchange.
     fn was_answered(&self) -> bool

@@ -117,7 +117,7 @@ fn ask_at<K: Sink, D: Disk, L: CountedLink>(
     tell_new(host, roll, known, out, page)
 }
 
-/// Tells the findings after the first so many.
+/// Writes the findings after the first so many.
 fn tell_new<K: Sink, D: Disk>(
     host: &mut Host<'_, D>,
     roll: &Roll,
@@ -134,7 +134,7 @@ fn tell_new<K: Sink, D: Disk>(
     tell_all(host, &roll.findings()[known..], out, page)
 }
 
-/// Tells some findings.
+/// Writes some findings.
 fn tell_all<K: Sink, D: Disk>(
     host: &mut Host<'_, D>,
     findings: &[Finding],
@@ -155,7 +155,7 @@ fn tell_all<K: Sink, D: Disk>(
     Ok(())
 }
 
-/// Tells a finding.
+/// Writes a finding.
 fn tell_one<K: Sink, D: Disk>(
     host: &mut Host<'_, D>,
     found: &Finding,

@@ -34,8 +34,8 @@ pub(crate) enum Until {
 }
 
 /// The job at an address makes one attempt, and its entries are written; then a `linefault`, where
-/// its exchange failed and none went through since the last one told, or a `lineback` where it is
-/// the first to go through; then a bill that is held.
+/// its exchange failed and none went through since the last one reported, or a `lineback` where it
+/// is the first to go through; then a bill that is held.
 pub(crate) fn attempt<K: Sink, D: Disk, L: CountedLink>(
     host: &mut Host<'_, D>,
     addr: u8,

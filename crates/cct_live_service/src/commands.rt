@@ -185,7 +185,7 @@ fn open_order<D: Disk>(host: &Host<'_, D>, id: u32) -> Option<OrderTold>
     None
 }
 
-/// What is told of the order of an id, where this is an open order at an address.
+/// What is reported of the order of an id, where this is an open order at an address.
 fn open_by(id: u32, addr: u8, order: Option<OpenOrder>) -> Option<OrderTold>
     ensures { result ≡ open_by id addr order }
 {

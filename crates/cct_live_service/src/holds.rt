@@ -1,4 +1,4 @@
-//! Which bills are held, as far as the readings of bill acceptors tell (ccTalk Generic
+//! Which bills are held, as far as the readings of bill acceptors show (ccTalk Generic
 //! Specification 4, part 3, header 159).
 ghost use Rattle.std.specs.Prelude.{◌≡◌};
 ghost use Rattle.std.specs.Option.{option_map};
@@ -14,14 +14,14 @@ const READ_BILLS: u8 = 159;
 /// The second byte of the event of a bill that is held, whose place is the first one.
 const HELD: u8 = 1;
 
-/// A bill that is held: its place, and the event counter of the reading that told it.
+/// A bill that is held: its place, and the event counter of the reading that showed it.
 #[derive(Clone, Copy, PartialEq, Eq)]
 pub struct Hold {
     pub place: u8,
     pub counter: u8,
 }
 
-/// The events that an exchange with a bill acceptor told: none where it asked for something else,
+/// The events that an exchange with a bill acceptor gave: none where it asked for something else,
 /// or wasn't answered.
 pub(crate) fn bills_told(kind: CheckKind, addr: u8, sent: &[u8], heard: &[u8]) -> Option<Credits>
     ensures { result ≡ bills_told kind addr sent.now heard.now }
@@ -43,7 +43,7 @@ fn asks_bills(sent: &[u8]) -> bool
     }
 }
 
-/// The events that a reply tells.
+/// The events that a reply gives.
 fn credits_of(reply: Option<Reply<'_>>) -> Option<Credits>
     ensures { result ≡ credits_of (option_map reply_shown reply.entry) }
 {

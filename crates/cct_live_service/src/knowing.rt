@@ -106,7 +106,7 @@ fn tell_unread<K: Sink>(out: &mut K, line: &mut TextLine) -> Result<(), Failed>
     tell(out, line, &Notice::StateUnread)
 }
 
-/// What the records since the last turn of the journal tell of an order, read by a disk that gives
+/// What the records since the last turn of the journal say of an order, read by a disk that gives
 /// the bytes of the host's.
 pub(crate) fn recorded_order<D: Disk + Drop, O: Beside<D>>(
     host: &Host<'_, D>,
@@ -122,7 +122,7 @@ pub(crate) fn recorded_order<D: Disk + Drop, O: Beside<D>>(
     }
 }
 
-/// What the journal on a disk tells of an order.
+/// What the journal on a disk says of an order.
 fn read_order<D: Disk + Drop, O: Beside<D>>(disk: D, id: u32, outside: &mut O) -> OrderTold
     requires new { D.faults disk ≡ 0 }
     ensures looks { (image : List ℕ) → D.seen disk ≡ Some image

@@ -1,4 +1,4 @@
-//! Lines that tell no entry of a transcript.
+//! Lines that are no entry of a transcript.
 ghost use Rattle.std.specs.Prelude.{◌≡◌, ◌<◌, ◌++◌, ◌∷◌, [], length, IsErr};
 ghost use Rattle.cct_edge.specs.Bytes.{Serves};
 ghost use Rattle.cct_text.specs.Writing.{PutsLine};
@@ -13,7 +13,7 @@ use cct_live_survey::Withheld;
 use cct_model::{Command, EpochState, MOST_TEXT, OpenOrder};
 use cct_text::TextLine;
 
-/// What a host on a real line tells beside the entries of its transcript and what its devices say
+/// What a host on a real line writes beside the entries of its transcript and what its devices say
 /// of themselves: a line each.
 #[derive(Clone, Copy, PartialEq, Eq)]
 pub enum Notice {
@@ -81,7 +81,7 @@ pub(crate) fn tell<K: Sink>(out: &mut K, line: &mut TextLine, notice: &Notice) -
     out.put(line.as_slice())
 }
 
-/// Writes what a notice tells, without a line feed.
+/// Writes what a notice says, without a line feed.
 #[tactic(auto, unfolding(crate::specs::Notice::notice_text))]
 fn write_notice(line: &mut TextLine, notice: &Notice)
     requires { line.old ≡ [] }

@@ -3,7 +3,7 @@ ghost use Rattle.std.specs.Prelude.{◌≡◌, ◌≤◌, ℕ};
 
 use cct_model::LineKind;
 
-/// The program around a service. It is told of refused lines.
+/// The program around a service. It hears of refused lines.
 pub trait Outside {
     /// How often the journal couldn't be opened or read beside the service: a count that never
     /// falls, and may stand still at 2^64 - 1.

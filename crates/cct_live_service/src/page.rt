@@ -15,7 +15,7 @@ use cct_edge::{Failed, Sink};
 use cct_model::{BROADCAST, End, Entry, Setup};
 use cct_text::{TextLine, write_entries};
 
-/// How an exchange went, as its link tells.
+/// How an exchange went, as its link says.
 #[derive(Clone, Copy)]
 pub(crate) struct Went {
     /// It failed, and not for want of an answer.

@@ -89,7 +89,7 @@ pub(crate) fn play<S: Source, K: Sink, D: Disk + Drop, L: CountedLink, O: Beside
 }
 
 /// What the next line of an input says, or why it says nothing; or how the input ends. The line has
-/// this number. Who is outside is told of it where it says nothing.
+/// this number. The program around the service hears of it where it says nothing.
 fn next_line<S: Source, O: Outside>(
     lines: &mut EndlessLines,
     number: u32,
@@ -122,7 +122,7 @@ fn next_line<S: Source, O: Outside>(
     }
 }
 
-/// Who is outside is told of a line that says nothing.
+/// The program around the service hears of a line that says nothing.
 fn tell_refusal<O: Outside>(
     said: Result<InputLine, LineKind>,
     number: u32,
@@ -216,7 +216,7 @@ fn is_hopper(setup: &Setup, addr: u8) -> bool
     }
 }
 
-/// Says that a line names no device of its kind. Who is outside is told of it, too.
+/// Says that a line names no device of its kind. The program around the service hears of it, too.
 fn refuse_unknown<K: Sink, D: Disk, O: Outside>(
     host: &mut Host<'_, D>,
     number: u32,

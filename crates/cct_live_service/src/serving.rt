@@ -37,8 +37,8 @@ use cct_model::Setup;
 /// back, with how it ended; the last line, where there is one, is written.
 ///
 /// `roll` has what was found of the devices so far, and what is still to be asked: a payment at a
-/// hopper that told another serial number than the setup names isn't given to the host, and neither
-/// is a start whose mask has a place that told another coin. What is left is asked in polls, and
+/// hopper that gave another serial number than the setup names isn't given to the host, and neither
+/// is a start whose mask has a place that gave another coin. What is left is asked in polls, and
 /// before such a command is decided. `page` may be used for one service after another.
 pub fn serve<S: Source, K: Sink, D: Disk + Drop, L: CountedLink, O: Beside<D>>(
     setup: &Setup,
@@ -53,11 +53,11 @@ pub fn serve<S: Source, K: Sink, D: Disk + Drop, L: CountedLink, O: Beside<D>>(
     page: &mut Page,
 ) -> (Served, D)
     requires sound { IsSoundSetup setup.now }
-    // What was done and told is what the lines of the input said, and it is the life of a host over
-    // the records that the disk had, whatever is heard; and how it ended. First it was reported
-    // what the disk had: a journal was made only where no byte but 0 was, and else the numbers are
-    // those of the records that were found. What went over the link are the exchanges that were
-    // told, and the questions of the roll, and nothing else.
+    // What was done and written is what the lines of the input said, and it is the life of a host
+    // over the records that the disk had, whatever is heard; and how it ended. First it was
+    // reported what the disk had: a journal was made only where no byte but 0 was, and else the
+    // numbers are those of the records that were found. What went over the link are the exchanges
+    // that were reported, and the questions of the roll, and nothing else.
     ensures lived { Closed K.written K.puts L.gives L.sent L.failures D.size D.honest D.seen D.may_leave D.moment
         D.left_since D.cuts disk result.1 setup.now roll.old roll.new desk.old desk.new (O.misses outside.old)
         (O.misses outside.new) ends (S.left input.old) result.0 out.old out.new
@@ -74,7 +74,8 @@ pub fn serve<S: Source, K: Sink, D: Disk + Drop, L: CountedLink, O: Beside<D>>(
     ensures size { D.size disk ≢ files.MADE_LEN
         → (result.0 ≡ Served.OtherSize (D.size disk)) ⊎ (result.0 ≡ Served.Unwritten) }
 
-    // Input, output and disk go on telling, no count falls, and no power is cut.
+    // Input, output and disk show their bytes afterwards where they did before; no count falls, and
+    // no power is cut.
     ensures input_goes_on { Serves S.left S.faults input.old input.new ⊥ }
     ensures sink_goes_on { Serves K.written K.faults out.old out.new ⊥ }
     ensures disk_goes_on { DiskServes D.size D.honest D.seen D.cuts D.faults disk result.1 ⊥ }

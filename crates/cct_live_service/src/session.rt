@@ -174,7 +174,7 @@ fn act_on<K: Sink, D: Disk, L: CountedLink>(
     }
 }
 
-/// Tells an entry of the desk.
+/// Writes an entry of the desk.
 fn tell_desk<K: Sink, D: Disk>(
     host: &mut Host<'_, D>,
     entry: &Entry,
@@ -345,7 +345,7 @@ fn withhold<K: Sink, D: Disk>(
     by_writing(tell_then(out, &mut page.line, &notice, &short_entry(shortfall)))
 }
 
-/// Tells a notice, and then an entry.
+/// Writes a notice, and then an entry.
 fn tell_then<K: Sink>(
     out: &mut K,
     line: &mut TextLine,

@@ -1,4 +1,4 @@
-//! How a host stands, told in notices.
+//! How a host stands, written in notices.
 ghost use Rattle.std.specs.Prelude.{◌≡◌, ◌∷◌, ℕ, [], IsErr};
 ghost use Rattle.cct_edge.specs.Bytes.{Serves};
 ghost use Rattle.cct_host.specs.Host.{setup_of};
@@ -131,7 +131,7 @@ fn tell_device<K: Sink, D: Disk>(
     }
 }
 
-/// Tells one notice.
+/// Writes one notice.
 fn tell_one<K: Sink>(notice: &Notice, out: &mut K, line: &mut TextLine) -> Result<(), Failed>
     ensures tells { WritesTold K.written K.puts out.old (lines.notice notice.now ∷ []) result
         out.new }
@@ -140,7 +140,7 @@ fn tell_one<K: Sink>(notice: &Notice, out: &mut K, line: &mut TextLine) -> Resul
     tell(out, line, notice)
 }
 
-/// Tells two notices.
+/// Writes two notices.
 fn tell_two<K: Sink>(
     first: &Notice,
     second: &Notice,

@@ -1,4 +1,5 @@
-//! What a service remembers of its line and of the bills that are held, and what it tells of them.
+//! What a service remembers of its line and of the bills that are held, and what it reports of
+//! them.
 ghost use Rattle.std.specs.Prelude.{◌≡◌};
 ghost use Rattle.cct_model.specs.Exchange.{device_at};
 ghost use Rattle.cct_live_service.specs.Held.{is_other};
@@ -12,7 +13,7 @@ use crate::notice::Notice;
 use cct_model::{CheckKind, Credits, End, Entry, Setup};
 
 /// How the line is, and the bill that each bill acceptor holds, by address, as its last reading
-/// told it.
+/// showed it.
 #[derive(Drop)]
 pub struct Watch {
     /// The last exchange failed.
@@ -21,7 +22,7 @@ pub struct Watch {
 }
 
 /// What is reported after the entries of an attempt: how the line is, where that changed, and a
-/// bill that is held, where it wasn't told yet.
+/// bill that is held, where it wasn't reported yet.
 #[derive(Clone, Copy, PartialEq, Eq)]
 pub struct Due {
     pub(crate) line: Option<Notice>,
@@ -80,7 +81,7 @@ impl Watch {
         }
     }
 
-    /// An exchange failed or not; what is told of the line.
+    /// An exchange failed or not; what is reported of the line.
     fn note_line(&mut self, has_failed: bool) -> Option<Notice>
         ensures line { result ≡ line_notice self.old.is_down has_failed }
         ensures down { self.new.is_down ≡ has_failed }
@@ -95,8 +96,8 @@ impl Watch {
         }
     }
 
-    /// An exchange with the device at an address told these events; what is told of the bill that
-    /// is held there.
+    /// An exchange with the device at an address gave these events; what is reported of the bill
+    /// that is held there.
     fn note_bills(&mut self, addr: u8, told: Option<Credits>) -> Option<Notice>
         ensures bill { result ≡ bill_notice self.old addr told }
         ensures down { self.new.is_down ≡ self.old.is_down }
@@ -122,7 +123,7 @@ impl Watch {
         }
     }
 
-    /// An entry is seen that may tell the end of a job.
+    /// An entry is seen that may be the end of a job.
     fn see_end(&mut self, entry: &Entry)
         ensures { self.new ≡ seen_at self.old entry.now }
     {
@@ -141,8 +142,8 @@ impl Watch {
     }
 }
 
-/// What is told of the bill that a reading at an address shows as held, by the one that was held
-/// before.
+/// What is reported of the bill that a reading at an address shows as held, by the one that was
+/// held before.
 fn new_notice(addr: u8, before: Option<Hold>, hold: Option<Hold>) -> Option<Notice>
     ensures { result ≡ new_notice addr before hold }
 {
@@ -165,7 +166,7 @@ fn is_other(hold: Hold, before: Option<Hold>) -> bool
     }
 }
 
-/// The events that an exchange with a device of the setup told of a bill acceptor.
+/// The events of a bill acceptor that an exchange with a device of the setup gave.
 fn events_told(setup: &Setup, addr: u8, sent: &[u8], heard: &[u8]) -> Option<Credits>
     ensures { result ≡ events_told setup.now.devices addr sent.now heard.now }
 {

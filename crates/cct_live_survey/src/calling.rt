@@ -1,4 +1,4 @@
-//! One question to a device of the setup, asked once, and what its answer tells.
+//! One question to a device of the setup, asked once, and what its answer says.
 ghost use Rattle.std.specs.Prelude.{◌≡◌};
 ghost use Rattle.cct_live_survey.specs.Roll.{CallsOnce, category_call, coin_call, is_family_of};
 ghost use Rattle.cct_live_survey.specs.Roll.{other_coin, serial_call};

@@ -45,7 +45,7 @@ impl Category {
         Category { text: bytes }
     }
 
-    /// Its bytes, as the device told them.
+    /// Its bytes, as the device gave them.
     pub fn as_slice(&self) -> &[u8]
         ensures value { result.now ≡ self.now }
         ensures fits { length result.now ≤ MOST_CATEGORY }

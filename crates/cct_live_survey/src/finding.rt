@@ -14,21 +14,21 @@ use cct_text::TextLine;
 /// In what the device at an address of the setup isn't as the setup says.
 #[derive(Clone, Drop, PartialEq, Eq)]
 pub enum Finding {
-    /// It told no serial number (header 242), asked three times.
+    /// It gave no serial number (header 242), asked three times.
     Absent {
         addr: u8,
     },
-    /// It told the category (header 245) of another kind of device, or none, asked three times.
+    /// It gave the category (header 245) of another kind of device, or none, asked three times.
     Kind {
         addr: u8,
         category: Option<Category>,
     },
-    /// It told another serial number (header 242), below 2^24.
+    /// It gave another serial number (header 242), below 2^24.
     Serial {
         addr: u8,
         number: u32,
     },
-    /// It told another identification of the coin of a place, 1 to 16 (header 184).
+    /// It gave another identification of the coin of a place, 1 to 16 (header 184).
     Coin {
         addr: u8,
         place: u8,
@@ -68,7 +68,7 @@ pub fn write_finding<K: Sink>(
     out.put(line.as_slice())
 }
 
-/// Writes what a finding tells in the place of what a line holds, without a line feed.
+/// Replaces what a line holds by what a finding says, without a line feed.
 #[tactic(auto, unfolding(crate::specs::Finding::finding_text))]
 fn push_finding(finding: &Finding, line: &mut TextLine)
     ensures text { line.new ≡ finding_text finding.now }
@@ -124,7 +124,7 @@ fn push_id(id: [u8; 6], line: &mut TextLine)
     push_shown(id.as_slice(), line);
 }
 
-/// Adds bytes that a device told, at most 255, each that isn't printing as a question mark.
+/// Adds bytes that a device gave, at most 255, each that isn't printing as a question mark.
 pub fn push_shown(text: &[u8], line: &mut TextLine)
     requires room { length line.old ≤ 100 }
     requires few { length text.now ≤ 255 }

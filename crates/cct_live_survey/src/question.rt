@@ -71,7 +71,7 @@ fn is_answered<L: Link>(
     .is_some()
 }
 
-/// The serial number that the device at an address tells under a check, asked so many times at
+/// The serial number that the device at an address gives under a check, asked so many times at
 /// most.
 pub fn serial_of<L: Link>(
     link: &mut L,
@@ -108,7 +108,7 @@ pub fn serial_of<L: Link>(
     }
 }
 
-/// The category that the device at an address tells under a check, asked so many times at most.
+/// The category that the device at an address gives under a check, asked so many times at most.
 pub fn category_of<L: Link>(
     link: &mut L,
     kind: CheckKind,
@@ -144,7 +144,7 @@ pub fn category_of<L: Link>(
     }
 }
 
-/// The identification of the coin of a place that the device at an address tells under a check,
+/// The identification of the coin of a place that the device at an address gives under a check,
 /// asked so many times at most.
 pub fn coin_id_of<L: Link>(
     link: &mut L,

@@ -52,8 +52,8 @@ pub enum Answered {
 /// only after all others that are left.
 ///
 /// After three silent turns at a question it is given up. Without a serial number the device is
-/// absent, and without a category it is of another kind; of coins that it doesn't tell nothing is
-/// found. A device that is absent, or doesn't tell its coins, rests: it is asked the same again
+/// absent, and without a category it is of another kind; of coins that it doesn't name nothing is
+/// found. A device that is absent, or doesn't name its coins, rests: it is asked the same again
 /// only by [`Roll::ask_at`], as before a start.
 #[derive(Drop)]
 pub struct Roll {

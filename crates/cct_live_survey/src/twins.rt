@@ -1,4 +1,4 @@
-//! Two devices whose replies can't be told apart.
+//! Two devices whose replies can't be distinguished.
 ghost use Rattle.std.specs.Prelude.{◌≡◌};
 ghost use Rattle.cct_live_survey.specs.Twins.{are_twins, twin_of, crc_twins};
 

@@ -10,10 +10,10 @@ use cct_model_lines::{Command, has_place};
 /// Why a command isn't to be given to the host.
 #[derive(Clone, Copy, PartialEq, Eq)]
 pub enum Withheld {
-    /// A payment, and the device told another serial number than the setup's. It would take no
+    /// A payment, and the device gave another serial number than the setup's. It would take no
     /// dispense that is meant for the hopper of the setup.
     OtherSerial,
-    /// A start, and the acceptor told another coin than the setup's at a place of the mask. Such a
+    /// A start, and the acceptor gave another coin than the setup's at a place of the mask. Such a
     /// coin would be posted with the value of the setup's.
     OtherCoin,
 }
@@ -41,7 +41,7 @@ pub fn withheld_by(findings: &[Finding], command: &Command) -> Option<Withheld>
     }
 }
 
-/// Whether the device at an address told another serial number.
+/// Whether the device at an address gave another serial number.
 fn has_other_serial(findings: &[Finding], addr: u8) -> bool
     ensures { result ≡ list_any (tells_other_serial addr) findings.now }
 {
@@ -60,7 +60,7 @@ fn tells_other_serial(addr: u8, finding: &Finding) -> bool
     }
 }
 
-/// Whether the acceptor at an address told another coin at a place of a mask.
+/// Whether the acceptor at an address gave another coin at a place of a mask.
 fn has_other_coin(findings: &[Finding], addr: u8, mask: u16) -> bool
     ensures { result ≡ list_any (tells_other_coin addr mask) findings.now }
 {

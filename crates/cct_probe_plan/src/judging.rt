@@ -78,7 +78,7 @@ fn unechoed(heard: &[u8]) -> Shown
     }
 }
 
-/// The event counter that an exchange told, if so many events more than those kept didn't come yet.
+/// The event counter that an exchange gave, if so many events more than those kept didn't come yet.
 pub fn counter_before(
     more: u16,
     turn: Turn<'_>,
@@ -263,7 +263,7 @@ fn is_refused(turn: Turn<'_>, rest: &[u8]) -> bool
 }
 
 /// One of two equal messages, which may be a reply that comes twice or those of two devices: one
-/// trial tells. Else all bytes.
+/// trial finds out which. Else all bytes.
 fn single(tried: Premise, rest: &[u8]) -> &[u8]
     ensures { result.now ≡ single tried rest.now }
 {

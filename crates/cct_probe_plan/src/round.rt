@@ -11,7 +11,7 @@ pub const MASKS: [u16; COIN_PLACES] = [
     1, 2, 4, 8, 16, 32, 64, 128, 256, 512, 1024, 2048, 4096, 8192, 16384, 32768,
 ];
 
-/// A device in a round of a trial. The trials of the line are told of address 0.
+/// A device in a round of a trial. The trials of the line are reported under address 0.
 #[derive(Clone, Copy)]
 pub struct Turn<'s> {
     pub device: &'s DeviceSetup,

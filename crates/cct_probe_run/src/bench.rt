@@ -51,7 +51,7 @@ pub(crate) enum Exchanged {
     Fault,
 }
 
-/// Whether any premise was told broken, and whether one on which a promise rests.
+/// Whether any premise was reported as broken, and whether one on which a promise rests.
 #[derive(Clone, Copy, PartialEq, Eq)]
 pub(crate) struct Broken {
     pub(crate) any: bool,
@@ -100,7 +100,7 @@ pub struct Bench<L, K> {
     pub(crate) leave: Leave,
     /// How many coins were ordered.
     pub(crate) asked: u16,
-    /// What was told broken.
+    /// What was reported as broken.
     pub(crate) broken: Broken,
     ghost within_leave: { asked ≤ leave.coins },
 }

@@ -65,7 +65,7 @@ impl<L: Line, K: Sink> Bench<L, K> {
         }
     }
 
-    /// Tells a line that shows no premise broken, by one put.
+    /// Writes a line that shows no premise broken, by one put.
     pub(crate) fn tell(&mut self, line: &TextLine) -> Result<(), Stop>
         requires other { Begun line.now }
         ensures plays { (setup : Setup) (trials : List Trial) (first : Bench L K) →
@@ -77,7 +77,7 @@ impl<L: Line, K: Sink> Bench<L, K> {
         Ok(())
     }
 
-    /// Says that a promise holds, where no premise that it rests on was told broken.
+    /// Says that a promise holds, where no premise that it rests on was reported as broken.
     pub(crate) fn tell_holds(&mut self, promise: Promise) -> Result<(), Stop>
         requires kept { fails promise self.old.broken ≡ false }
         ensures plays { (setup : Setup) (trials : List Trial) (first : Bench L K) →
@@ -88,7 +88,7 @@ impl<L: Line, K: Sink> Bench<L, K> {
         Ok(())
     }
 
-    /// Tells the last exchange.
+    /// Writes the last exchange.
     pub(crate) fn tell_wire(&mut self, addr: u8) -> Result<(), Stop>
         ensures plays { (setup : Setup) (trials : List Trial) (first : Bench L K) →
             Plays L.reads L.writes K.puts setup trials first self.old →

@@ -217,7 +217,7 @@ fn close_once<L: Line, K: Sink>(
     tell_closed(bench, plan, turn)
 }
 
-/// Tells the last exchange, and listens once more where nothing came.
+/// Writes the last exchange, and listens once more where nothing came.
 fn tell_closed<L: Line, K: Sink>(
     bench: &mut Bench<L, K>,
     plan: Plan<'_>,

@@ -40,7 +40,7 @@ pub enum Ended {
 }
 
 /// Does the trials of the plan at each device of the setup, one after the other, then those of the
-/// line; and tells which promises hold. However that ends, each device is left at last as it may
+/// line; and reports which promises hold. However that ends, each device is left at last as it may
 /// stay.
 pub fn run<L: Line, K: Sink, S: Source, C: Clock>(
     bench: &mut Bench<L, K>,
@@ -56,10 +56,11 @@ pub fn run<L: Line, K: Sink, S: Source, C: Clock>(
     ensures leaves { EndsLeft L.reads L.writes K.puts plan.entry.setup.now plan.entry.trials.now
         bench.old bench.new }
     // Each trial of the plan was done at each device that it is for: all its rounds and steps were
-    // asked, and each answer is right; or a premise was told broken; or this is why it wasn't.
+    // asked, and each answer is right; or a premise was reported as broken; or this is why it
+    // wasn't.
     ensures tries { IfOk result (λ ended. AllDone L.reads L.writes K.puts plan.entry.setup.now
         plan.entry.trials.now (has_heard ended) bench.old bench.new) }
-    // Whether a premise was told broken.
+    // Whether a premise was reported as broken.
     ensures kept { result ≡ Ok Ended.Kept → bench.new.broken.any ≡ false }
     ensures broken { result ≡ Ok Ended.Broken → bench.new.broken.any ≡ true }
 {
@@ -70,7 +71,7 @@ pub fn run<L: Line, K: Sink, S: Source, C: Clock>(
     Ok(ending_of(is_heard, bench.broken.any))
 }
 
-/// How trials ended, by whether some device answered and some premise was told broken.
+/// How trials ended, by whether some device answered and some premise was reported as broken.
 fn ending_of(is_heard: bool, is_broken: bool) -> Ended
     ensures broken { result ≡ Ended.Broken ↔ ((is_heard ≡ true) × (is_broken ≡ true)) }
     ensures kept { result ≡ Ended.Kept ↔ ((is_heard ≡ true) × (is_broken ≡ false)) }

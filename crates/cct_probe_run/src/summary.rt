@@ -1,4 +1,4 @@
-//! What is told of a device at its end, and of the promises at last.
+//! What is reported of a device at its end, and of the promises at last.
 ghost use Rattle.std.specs.Prelude.{◌≡◌, IfOk, List};
 ghost use Rattle.cct_model_wire.specs.declared.device.Setup.{Setup};
 ghost use Rattle.cct_probe_plan.specs.declared.plan.Trial.{Trial};
@@ -89,7 +89,7 @@ pub(crate) fn tell_promises<L: Line, K: Sink>(
     Ok(())
 }
 
-/// Tells each premise of a promise that is broken, or each that wasn't tried, and answers whether
+/// Reports each premise of a promise that is broken, or each that wasn't tried, and answers whether
 /// there is one.
 fn tell_each<L: Line, K: Sink>(
     bench: &mut Bench<L, K>,

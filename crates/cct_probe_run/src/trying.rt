@@ -155,7 +155,7 @@ fn take_span(spans: &mut Spans, span: u64) {
     spans.many = spans.many.saturating_add(1);
 }
 
-/// Tells the longest span and the mean one.
+/// Writes the longest span and the mean one.
 fn tell_spans<L: Line, K: Sink>(bench: &mut Bench<L, K>, told: u8, spans: Spans) -> Result<(), Stop>
     ensures plays { (setup : Setup) (trials : List Trial) (first : Bench L K) →
         Plays L.reads L.writes K.puts setup trials first bench.old →
@@ -199,7 +199,7 @@ fn go_round<L: Line, K: Sink, S: Source>(
     Ok(Done::On)
 }
 
-/// Tells and notes what came of a trial.
+/// Reports and notes what came of a trial.
 fn conclude<L: Line, K: Sink>(
     bench: &mut Bench<L, K>,
     plan: Plan<'_>,
