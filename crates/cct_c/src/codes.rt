@@ -25,7 +25,7 @@ pub const NO_REQUEST: u32 = 5;
 /// Fewer bytes than the shortest message has.
 pub const SHORT: u32 = 6;
 
-/// The number of data bytes that the second byte tells isn't that of the piece.
+/// The number of data bytes that the second byte gives isn't that of the piece.
 pub const BAD_LENGTH: u32 = 7;
 
 /// The check isn't that of the bytes.

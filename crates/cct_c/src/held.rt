@@ -18,8 +18,8 @@ use cct_hopper::Hopper;
 use cct_model_wire::{COIN_PLACES, DeviceBody, DeviceSetup, MOST_SENT};
 use std::alloc::{AllocError, Global};
 
-/// Settings, or a coin acceptor, a hopper or a bill acceptor. Its contracts tell a device by all
-/// that it met, newest first.
+/// Settings, or a coin acceptor, a hopper or a bill acceptor. Its contracts describe a device by
+/// all that it met, newest first.
 #[derive(Drop)]
 pub enum Held {
     Settings(DeviceSetup),

@@ -70,7 +70,7 @@ pub extern "C" fn lh_raw_reply_read(
 ) -> u32
     ensures answer { result ≡ reply_answer (kind_of check) (slice_get forms form) addr sent.now
         heard.now }
-    // The fields tell the reply that was got; where there was none, nothing changes.
+    // The fields show the reply that was got; where there was none, nothing changes.
     ensures told { MatchOption (got_by (kind_of check) addr (slice_get forms form) sent.now heard.now)
         ((result ≢ OK) × (reply.new ≡ reply.old)) (λ y. (result ≡ OK) × Tells y reply.new) }
 {
@@ -114,7 +114,7 @@ fn reply_in<'h>(
     }
 }
 
-/// What is told of a reply.
+/// What a caller gets of a reply.
 fn told(reply: &Reply<'_>) -> LhReply
     ensures { Tells (reply_shown reply.now) result }
 {
@@ -180,7 +180,8 @@ fn told(reply: &Reply<'_>) -> LhReply
     }
 }
 
-/// What is told of a reply that is a text. A message has no longer one than there is room for.
+/// What a caller gets of a reply that is a text. A message has no longer one than there is room
+/// for.
 fn told_text(text: &[u8]) -> LhReply
     ensures { length text.now ≤ MOST_TEXT → take result.count result.text ≡ text.now }
 {

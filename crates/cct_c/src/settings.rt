@@ -9,7 +9,7 @@ use crate::codes::{
 };
 use cct_model_wire::{COIN_PLACES, DeviceBody, DeviceSetup, MOST_NAME, Name, Texts};
 
-/// The first number that three bytes can't tell.
+/// The first number that three bytes can't hold.
 const OVER: u32 = 1 << 24;
 
 /// The greatest value of a coin or a bill.

@@ -9,7 +9,7 @@ use cct_edge::{Failed, Source};
 const SETUP: &[u8] =
     b"acceptor 2 simple 1 0\nvalue 2 5 100 EU100A\nhopper 3 crc 197121 16777214 10\nbegin\n";
 
-/// The lines of the setup, and then what another source gives. It tells none of its bytes.
+/// The lines of the setup, and then what another source gives. It shows none of its bytes.
 #[derive(Drop)]
 pub(crate) struct AfterSetup<S> {
     setup: &'static [u8],

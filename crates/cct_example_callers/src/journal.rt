@@ -113,7 +113,7 @@ fn a_record_outlives_a_power_cut(rt: HostRuntime) -> Result<(), Fail> {
     assert_eq!(rt; journal.used(), 2);
 
     // It is in the other half, which began with the carry of the first record: the epoch that it
-    // tells.
+    // gives.
     assert_eq!(rt; journal.base(), 1);
     assert!(rt; matches!(journal.read_at(1)?, Record::EpochEnd { addr: 2 }));
     let epoch = CarryEpoch {

@@ -1,4 +1,4 @@
-//! What the devices of the examples tell of themselves.
+//! What the devices of the examples say of themselves.
 ghost use Rattle.cct_model_wire.specs.Device.{IsWord};
 
 use cct_model_wire::{Name, Texts};

@@ -93,7 +93,7 @@ fn main(rt: HostRuntime) -> io::Result<ExitCode> {
     Ok(ExitCode::SUCCESS)
 }
 
-/// The task that the words of the command line tell.
+/// The task that the words of the command line give.
 fn asked(rt: &(impl Env + AllocGlobal)) -> Option<Task> {
     let words: Vec<String> = env::args(rt).ok()?.skip(1).collect(rt.alloc()).ok()?;
     let [work, data, passes] = words.as_slice() else {
@@ -118,8 +118,8 @@ fn asked(rt: &(impl Env + AllocGlobal)) -> Option<Task> {
     })
 }
 
-/// The lengths of all answers of an acceptor to requests for its credits, added up. Which of two
-/// askers is the next is told by the sum so far.
+/// The lengths of all answers of an acceptor to requests for its credits, added up. The sum so far
+/// decides which of two askers is the next.
 fn exchanges(alloc: Global, passes: u32) -> Result<u64, AllocError> {
     let setup = acceptor();
     let mut acceptor = Acceptor::new(alloc, &setup)?;

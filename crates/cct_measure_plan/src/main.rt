@@ -36,7 +36,7 @@ fn main(rt: HostRuntime) -> io::Result<ExitCode> {
     Ok(ExitCode::SUCCESS)
 }
 
-/// The task that the words of the command line tell.
+/// The task that the words of the command line give.
 fn asked(rt: &(impl Env + AllocGlobal)) -> Option<Task> {
     let words: Vec<String> = env::args(rt).ok()?.skip(1).collect(rt.alloc()).ok()?;
     let [trays, amount, stock] = words.as_slice() else {

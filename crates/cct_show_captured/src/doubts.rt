@@ -93,8 +93,8 @@ fn bytes(count: usize) -> u64 {
     u64::try_from(count).unwrap_or(u64::MAX)
 }
 
-/// Whether the reply of an exchange, behind the echo or without one, is the message of another
-/// device than the request is for. Under the CRC no reply tells which device sent it.
+/// Whether the reply of an exchange, after the echo or without one, is the message of another
+/// device than the request is for. Under the CRC no reply says which device sent it.
 fn is_of_another(sent: &[u8], heard: &[u8]) -> bool {
     let Ok(asked) = read(CheckKind::Simple, sent) else {
         return false;

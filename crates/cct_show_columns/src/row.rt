@@ -20,7 +20,7 @@ pub(crate) struct Value<'l> {
 pub struct Row<'l> {
     /// The first word.
     pub(crate) kind: &'l str,
-    /// The word that tells forms with this first word apart; empty where there is none.
+    /// The word by which forms with this first word differ; empty where there is none.
     pub(crate) what: &'l str,
     pub(crate) values: ArrayVec<Value<'l>, MOST_VALUES>,
     /// What the line says, with the names of columns for values; empty where `cct_show_words` says
@@ -108,7 +108,7 @@ impl<'l> Row<'l> {
         let _ = self.values.try_push(Value { name, text });
     }
 
-    /// Takes a word that tells forms apart, if it is the first one.
+    /// Takes a word by which forms differ, if it is the first one.
     pub(crate) fn put_word(&mut self, word: &'static str) {
         if self.what.is_empty() && self.kind != word {
             self.what = word;

@@ -9,7 +9,7 @@ pub(crate) type Utf8 = ArrayVec<u8, 3>;
 /// How the characters are written.
 #[derive(Clone, Copy)]
 pub(crate) enum Encoding {
-    /// Each byte stands for itself.
+    /// Each byte is taken as it is.
     Bytes,
     /// Two bytes are a unit of UTF-16: the lower one first, or the higher one.
     Little(Option<u8>),

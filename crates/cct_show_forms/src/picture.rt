@@ -364,7 +364,7 @@ impl Marks {
         Ok(())
     }
 
-    /// Learns what an entry tells of its device; and where a route ended adds what became of the
+    /// Learns what an entry says of its device; and where a route ended adds what became of the
     /// bill.
     fn learn(&mut self, place: Place, entry: &Entry) -> Result<(), AllocError> {
         if let Some((addr, kind)) = kind_told(entry) {

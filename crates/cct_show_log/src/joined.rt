@@ -30,7 +30,7 @@ pub enum Said {
     /// Bytes of which the log doesn't say which way they went.
     Either(LogBytes),
     /// So many bytes of a message, which a later line may end, and has then so many, as far as they
-    /// tell it.
+    /// show it.
     Part { count: usize, len: Option<usize> },
     /// What was heard in lines before, and no line ended.
     Late(LogBytes),
@@ -67,7 +67,7 @@ pub(crate) struct Joined {
     /// Whether an echo was heard, and how many replies without one came before it.
     has_echo: bool,
     bare_replies: u32,
-    /// Whether what comes next is behind a whole message that was sent in the same line, and whether
+    /// Whether what comes next is after a whole message that was sent in the same line, and whether
     /// what is held of a sent message is.
     is_behind: bool,
     is_tail: bool,
@@ -127,7 +127,7 @@ impl Joined {
         };
     }
 
-    /// The way of the bytes of a line, as far as its word for it tells.
+    /// The way of the bytes of a line, as far as its word for it says.
     fn known_way(&mut self, way: Option<Way>) -> Option<Way> {
         self.has_sent |= way == Some(Way::Sent);
         self.has_heard |= way == Some(Way::Heard);
@@ -320,7 +320,7 @@ impl Joined {
         Some(part)
     }
 
-    /// Takes bytes of which no line shows the way: messages are told apart by their lengths, and by
+    /// Takes bytes of which no line shows the way: messages are separated by their lengths, and by
     /// their checksums.
     fn take_free(&mut self, bytes: LogBytes) -> Option<Said> {
         if self.goes_on(bytes.as_slice()) {

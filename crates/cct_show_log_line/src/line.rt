@@ -57,7 +57,7 @@ pub enum Has {
     Heading(Option<Way>),
 }
 
-/// What the lines before tell of how a log is written.
+/// What the lines before show of how a log is written.
 #[derive(Clone, Copy)]
 pub struct Habit {
     /// How the bytes are written, where that is known.
@@ -76,7 +76,7 @@ pub struct Habit {
     pub(crate) has_texts: bool,
     /// How such texts write them.
     pub(crate) spelling: Spelling,
-    /// The way that a line without bytes told.
+    /// The way that a line without bytes gave.
     pub way: Option<Way>,
     /// What was taken for granted in this line, and could be read in another way.
     pub guess: Option<Guess>,
@@ -353,7 +353,7 @@ fn is_sure(front: &[u8], way: &WayAt) -> bool {
     !way.is_weak || !way.is_part && is_bare(front)
 }
 
-/// Bytes that went a way which their line tells.
+/// Bytes that went a way which their line gives.
 fn ways_bytes(way: Way, bytes: LogBytes, habit: &mut Habit) -> Has {
     habit.way = None;
     Has::Bytes {
@@ -559,8 +559,8 @@ fn without_fields(text: &[u8], run: Run, habit: &mut Habit) -> Run {
     }
 }
 
-/// The bytes of a text that are messages where numbers before them are left out, and their number
-/// behind them; `None` where they are none.
+/// The bytes of a text that are messages where numbers before them are left out, and the number
+/// after them; `None` where they are none.
 fn within(text: &[u8], base: Option<Base>) -> Option<Run> {
     let base = base.unwrap_or(Base::Hex);
     let mut cut = 0usize;

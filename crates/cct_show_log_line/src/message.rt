@@ -18,7 +18,7 @@ pub fn first_message(bytes: &[u8]) -> Option<(&[u8], &[u8])> {
     bytes.split_at_checked(usize::from(*count) + LEAST_MESSAGE)
 }
 
-/// How many bytes the message has that these begin, by its length; `None` where they don't tell it.
+/// How many bytes the message has that these begin, by its length; `None` where they don't show it.
 pub fn wanted_len(bytes: &[u8]) -> Option<usize> {
     let [_, count, ..] = bytes else {
         return None;

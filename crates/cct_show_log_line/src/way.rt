@@ -65,7 +65,7 @@ fn way_at(line: &[u8], before: &[u8], word: &Word<'_>) -> Option<WayAt> {
     transfer_at(line, word).or(named_at(word))
 }
 
-/// The way of a bulk transfer in a line of `usbmon`, where its bytes are there: behind a sign of
+/// The way of a bulk transfer in a line of `usbmon`, where its bytes are there: after a sign of
 /// equality.
 fn transfer_at(line: &[u8], word: &Word<'_>) -> Option<WayAt> {
     let way = match word.text {

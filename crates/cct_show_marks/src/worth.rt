@@ -1,4 +1,4 @@
-//! What the input tells of the worth of an acceptor's places.
+//! What the input says of the worth of an acceptor's places.
 
 use crate::Wire;
 use cct_msg::{Reply, Request};
@@ -43,7 +43,7 @@ pub fn worth_in_exchange(wire: &Wire<'_>) -> Option<PlaceWorth> {
     }
 }
 
-/// What the line `value A PLACE VALUE ID` of a setup tells (`docs/SCRIPT.md`).
+/// What the line `value A PLACE VALUE ID` of a setup says (`docs/SCRIPT.md`).
 pub fn worth_in_line(line: &[u8]) -> Option<PlaceWorth> {
     let mut fields = line.strip_prefix(b"value ")?.split(|byte| *byte == b' ');
     Some(PlaceWorth {

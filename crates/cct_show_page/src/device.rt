@@ -1,4 +1,4 @@
-//! The devices of a page, and what the rows tell of each.
+//! The devices of a page, and what the rows show of each.
 
 use cct_model_lines::{Coins, Record, Said};
 use cct_show_picture::LaneKind;
@@ -10,7 +10,7 @@ pub(crate) struct Order {
     pub(crate) count: u8,
 }
 
-/// What the rows tell of one device.
+/// What the rows show of one device.
 #[derive(Clone, Copy)]
 pub(crate) struct Device {
     pub(crate) addr: u8,
@@ -22,7 +22,7 @@ pub(crate) struct Device {
     pub(crate) exchanges: u64,
     /// The exchanges without a wanted reply.
     pub(crate) bad: u64,
-    /// Coins or bills that the records post, and tell to be lost.
+    /// Coins or bills that the records post, and report as lost.
     pub(crate) posted: u64,
     pub(crate) lost: u64,
     /// Coins of closed orders.
@@ -36,7 +36,7 @@ pub(crate) struct Device {
     pub(crate) fell: u64,
 }
 
-/// The devices, and what the rows tell of all of them.
+/// The devices, and what the rows show of all of them.
 #[derive(Drop)]
 pub(crate) struct Devices {
     /// The device at each address.

@@ -88,7 +88,8 @@ pub(crate) fn tone_of_entry(entry: &Entry) -> Tone {
     }
 }
 
-/// How a record is to be looked at: coins that are lost, a broken epoch or odd life counts are red.
+/// How a record is to be looked at: coins that are lost, a broken epoch or life counts of more
+/// coins than were ordered are red.
 pub(crate) fn tone_of_record(record: &Record) -> Tone {
     match record {
         Record::Broken { .. } | Record::Odd { .. } => Tone::Red,

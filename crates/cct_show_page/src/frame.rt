@@ -11,8 +11,8 @@ use cct_edge::{Failed, Sink};
 use cct_show_pen::Pen;
 use cct_show_picture::Picture;
 
-/// What is before a text that is a page by itself: the least that HTML wants. The encoding is told
-/// by a byte order mark.
+/// What is before a text that is a page by itself: the least that HTML wants. A byte order mark
+/// gives the encoding.
 const LEAST_HEAD: &[u8] = b"\xef\xbb\xbf<!DOCTYPE html><title>.</title><pre>";
 
 /// Writes lines as they are as a page.

@@ -16,7 +16,7 @@ pub(crate) enum Ending {
     Told { word: Label, end: End },
 }
 
-/// A job, and what its rows tell.
+/// A job, and what its rows show.
 #[derive(Drop)]
 pub(crate) struct Job {
     /// Its command, without the `ok` before it.

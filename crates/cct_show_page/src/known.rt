@@ -1,4 +1,4 @@
-//! What the last reply to each request was, to tell polls that say nothing new.
+//! What the last reply to each request was, to find polls that say nothing new.
 
 use std::alloc::{AllocError, Global};
 

@@ -31,7 +31,7 @@ pub struct Page {
     /// The row of a fault that the next exchange will have.
     fault: Option<usize>,
     known: Known,
-    /// The last sums that the host told.
+    /// The last sums that the host reported.
     pub(crate) balance: Option<Totals>,
     /// The number of the last line, and what the lines have.
     pub(crate) lines: u64,
@@ -309,7 +309,7 @@ impl Page {
         Ok(())
     }
 
-    /// Takes what the entry of the last row tells of its device and its job.
+    /// Takes what the entry of the last row says of its device and its job.
     fn take(&mut self, addr: Option<u8>, index: Option<usize>, line: &[u8], entry: &Entry) {
         match entry {
             Entry::Put(record) | Entry::Kept(record) => self.put(addr, index, record),
@@ -422,7 +422,7 @@ impl Page {
     }
 }
 
-/// What an entry tells of the device at its address.
+/// What an entry says of the device at its address.
 fn kind_of(addr: u8, entry: &Entry) -> LaneKind {
     match kind_told(entry) {
         Some((told, kind)) if told == addr => kind,

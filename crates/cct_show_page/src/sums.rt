@@ -84,7 +84,7 @@ fn write_sum<K: Sink>(pen: &mut Pen<'_, K>, needs: &Needs, column: Column, devic
     }
 }
 
-/// Writes the sums in money, where the rows tell any.
+/// Writes the sums in money, where the rows show any.
 fn write_money<K: Sink>(pen: &mut Pen<'_, K>, page: &Page) {
     if let Some(totals) = &page.balance {
         write_amount(pen, b"<p>The last balance: ", totals.available);

@@ -19,7 +19,7 @@ pub enum LaneKind {
 pub enum Reach {
     /// It was heard whole, as far as is known.
     Device,
-    /// No device heard it whole, or its echo isn't whole, so that nothing tells.
+    /// No device heard it whole, or its echo isn't whole, so that nothing shows whether one did.
     Lost,
 }
 

@@ -58,7 +58,7 @@ fn coins_of(count: u8) -> &'static [u8] {
 }
 
 /// Writes the coins that a record posts, with their worth where it is reported, and how many more
-/// it tells to be lost.
+/// it reports as lost.
 fn write_coins<K: Sink>(
     pen: &mut Pen<'_, K>,
     worths: &Worths,

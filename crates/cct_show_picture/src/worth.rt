@@ -1,4 +1,4 @@
-//! What the places of acceptors are worth, where the input tells.
+//! What the places of acceptors are worth, where the input says so.
 
 use cct_edge::Sink;
 use cct_show_pen::Pen;
@@ -12,7 +12,7 @@ struct Worth {
     amount: u32,
 }
 
-/// What each place that the input tells of is worth: at most one entry for a place.
+/// What places are worth, as far as the input says: at most one entry for a place.
 #[derive(Drop)]
 pub(crate) struct Worths {
     list: Vec<Worth>,

@@ -39,7 +39,7 @@ pub enum Answer<'e> {
     /// Bytes that are no message under the check of the request.
     Broken(FrameFault),
     /// The reply that was wanted, NAK or BUSY, of a device that takes coins or bills as far as the
-    /// request tells.
+    /// request shows.
     Reply {
         kind: CheckKind,
         from: u8,

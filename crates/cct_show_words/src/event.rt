@@ -89,7 +89,7 @@ pub enum Taker {
 }
 
 impl Taker {
-    /// What the device takes to which this request is sent, as far as the request tells: coins
+    /// What the device takes to which this request is sent, as far as the request shows: coins
     /// where it doesn't.
     pub(crate) fn of(request: Option<Request>) -> Taker {
         match request {

@@ -173,7 +173,7 @@ static NAMES: [(u8, &str); 163] = [
     (0, "Reply"),
 ];
 
-/// What a device is, as far as a header tells.
+/// What a device is, as far as a header shows.
 #[derive(Clone, Copy)]
 pub enum DeviceKind {
     Acceptor,

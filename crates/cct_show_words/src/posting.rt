@@ -99,7 +99,7 @@ fn write_end<W: fmt::Write>(record: &Record, f: &mut fmt::Formatter<W>) -> fmt::
     }
 }
 
-/// Writes the coins or bills that a record posts, and how many more it tells to be lost, by the
+/// Writes the coins or bills that a record posts, and how many more it reports as lost, by the
 /// accept counter that was read.
 fn write_coins<W: fmt::Write>(
     posted: &Coins,

@@ -69,7 +69,7 @@ pub(crate) struct Ends {
     pub(crate) paths: u64,
     /// An order was closed.
     pub(crate) closed: u64,
-    /// A device told all of itself.
+    /// A device said all of itself.
     pub(crate) told: u64,
     /// Devices that a scan listed under the CRC.
     pub(crate) listed: u64,
@@ -139,7 +139,7 @@ pub(crate) struct Account {
     pub(crate) missed: u64,
     /// How many commands were refused.
     pub(crate) refused: u64,
-    /// How many coins were accepted, how many the records post, and how many they tell to be lost.
+    /// How many coins were accepted, how many the records post, and how many they report as lost.
     pub(crate) accepted: AtAcceptors,
     pub(crate) posted: AtAcceptors,
     pub(crate) lost: u64,

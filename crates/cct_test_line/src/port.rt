@@ -45,7 +45,7 @@ struct Played {
     read_fails: u64,
     write_fails: usize,
     parts: &'static [Part],
-    /// How much later than told the parts come.
+    /// How much later the parts come than each one says.
     late: u64,
     given: usize,
     waiting: ArrayVec<u8, MOST_HEARD>,

@@ -100,8 +100,8 @@ const SETTLE: &[Step] = &[
     Step::Turns(3, 4, 4),
 ];
 
-/// All four devices tell of themselves, an acceptor in 26 exchanges and a hopper in 8. Then they
-/// are listed, in 10.
+/// All four devices are asked for what they say of themselves, an acceptor in 26 exchanges and a
+/// hopper in 8. Then they are listed, in 10.
 const IDENT: &[Step] = &[
     Step::Give(Command::Ident { addr: 2 }),
     Step::Give(Command::Ident { addr: 5 }),
