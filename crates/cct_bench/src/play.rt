@@ -72,9 +72,11 @@ pub fn opened<D: Disk>(disk: D) -> Result<Journal<D>, (Ending, D)>
 /// Plays a step and writes its entries: the buffers of both.
 #[derive(Drop)]
 struct StepPlayer {
-    /// The entries of the last `next`. Most of these are exchanges, and an entry that stands in the
-    /// place of one of its kind is only filled.
+    /// The entries of the last `next` that put no record. Most of these are exchanges, and an entry
+    /// that stands in the place of one of its kind is only filled.
     attempt: ArrayVec<Entry, 8>,
+    /// The entries of the last `next` that put a record.
+    put: ArrayVec<Entry, 8>,
     /// The entries of the last command.
     command: ArrayVec<Entry, 8>,
     /// The entries of the last step that was neither.
@@ -126,6 +128,9 @@ impl StepPlayer {
             (λ e. Caused (D.faults (disk_of world.entry)) (D.faults e.1) (status_of e.0 ≡ Status.DiskFault)) }
     {
         match step {
+            Step::Next { addr } if world.puts(*addr) => {
+                play_step(step, world, &mut self.put, &mut self.line, out)
+            }
             Step::Next { .. } => play_step(step, world, &mut self.attempt, &mut self.line, out),
             Step::Command(_) => play_step(step, world, &mut self.command, &mut self.line, out),
             _ => play_step(step, world, &mut self.report, &mut self.line, out),
@@ -276,6 +281,7 @@ impl Bench {
                 steps: StepRooms::new(),
                 player: StepPlayer {
                     attempt: ArrayVec::new(),
+                    put: ArrayVec::new(),
                     command: ArrayVec::new(),
                     report: ArrayVec::new(),
                     line: TextLine::new(),

@@ -447,6 +447,15 @@ impl<'s, D: Disk> Host<'s, D> {
         self.desks.due(addr)
     }
 
+    /// Whether the job at an address is about to put a record.
+    pub fn puts(&self, addr: u8) -> bool
+        ensures value { result ≡ is_some (all_desks.due_on self.now.desks addr) }
+        ensures stands { (past : List Entry) → Keeps self.now past → result
+            ≡ is_some (due_at (setup_of self.now) past addr) }
+    {
+        self.desks.puts_there(addr, self.desks.find(addr))
+    }
+
     /// The disk, to be looked at.
     pub fn disk(&self) -> &D
         ensures { result.now ≡ disk_of self.now }

@@ -1,12 +1,12 @@
 //! The machine of a world: the host, the bus with its devices, and the operator's desk.
 ghost use Rattle.std.specs.Prelude.{◌∷◌, ◌++◌, ◌≡◌, ◌<◌, [], IfErr, IsTrue, List, OnOk, Some};
-ghost use Rattle.std.specs.Prelude.{false, length, reverse, true};
+ghost use Rattle.std.specs.Prelude.{false, is_some, length, reverse, true};
 ghost use Rattle.cct_model.specs.lines.command.Step.TheVariants as step;
 ghost use Rattle.cct_model.specs.Exchange.{device_at, known_there};
 ghost use Rattle.cct_model.specs.Family.{IsPlaced};
 ghost use Rattle.cct_model.specs.lines.entry.Entry.{Entry};
 ghost use Rattle.cct_model.specs.lines.entry.Entry.TheVariants as entry;
-ghost use Rattle.cct_model.specs.Legal.{is_played, step_of};
+ghost use Rattle.cct_model.specs.Legal.{due_at, is_played, step_of};
 ghost use Rattle.cct_model.specs.Money.{totals};
 ghost use Rattle.cct_model.specs.Script.{IsCrash, IsFault, IsInRange, is_known};
 ghost use Rattle.cct_bus.specs.Bus as wires;
@@ -312,6 +312,14 @@ impl<D: Disk> Machine<'_, D> {
                 Err(WorldNo::Disk)
             }
         }
+    }
+
+    /// Whether the job at an address is about to put a record.
+    pub fn puts(&self, addr: u8) -> bool
+        ensures { (past : List Entry) → StandsFor self.now past → result
+            ≡ is_some (due_at (setup_of self.now) past addr) }
+    {
+        self.host.puts(addr)
     }
 
     /// What is available, reserved, paid and sold, in units of value.

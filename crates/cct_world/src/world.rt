@@ -1,7 +1,7 @@
 //! The world of a script: the host, the bus with its devices, and the operator's desk.
-ghost use Rattle.std.specs.Prelude.{◌≡◌, [], IfErr, IfOk, IsTrue, MatchResult, false};
+ghost use Rattle.std.specs.Prelude.{◌≡◌, [], IfErr, IfOk, IsTrue, MatchResult, false, is_some};
 ghost use Rattle.cct_model.specs.Change.{clear_desk};
-ghost use Rattle.cct_model.specs.Legal.{is_played};
+ghost use Rattle.cct_model.specs.Legal.{due_at, is_played};
 ghost use Rattle.cct_model.specs.Script.{IsInRange, is_known};
 ghost use Rattle.cct_model.specs.Setup.{IsSoundSetup};
 ghost use Rattle.std.specs.Prelude.{List};
@@ -81,6 +81,14 @@ impl<'s, D: Disk> World<'s, D> {
         ensures { result ≡ is_known (setup_of self.now) step.now }
     {
         self.machine.knows(step)
+    }
+
+    /// Whether the job at an address is about to put a record.
+    pub fn puts(&self, addr: u8) -> bool
+        ensures { (past : List Entry) → StandsFor self.now past → result
+            ≡ is_some (due_at (setup_of self.now) past addr) }
+    {
+        self.machine.puts(addr)
     }
 
     /// Plays one step; the report is replaced by the entries of the step.
