@@ -4,7 +4,6 @@ use Rattle.std.proofs.Common.{sym, ◌∙◌, subst, append_assoc, arith}
 use Rattle.std.specs.List.{slice_split, position}
 use Rattle.std.specs.Io.KnownBytes.{Consumes}
 use Rattle.std.proofs.lemmas.List.{append-nil}
-use Rattle.std.proofs.Math.Nat.{le_trans}
 use Rattle.cct_edge.specs.Bytes.{Serves}
 use Rattle.cct_edge.specs.declared.fault.Failed.{Failed}
 use Rattle.cct_edge.proofs.Chains.{Consumes-nil, Consumes-trans}
@@ -36,11 +35,12 @@ use Rattle.cct_bench.specs.Lines.{said_from, ScriptGoesOn, IsClosed, StopsAt, En
 use Rattle.cct_bench.specs.Disks.{Always, most_records}
 use Rattle.cct_bench.specs.Going.{AlsoSays, Going, IsUnbegun}
 use Rattle.cct_bench.specs.SetupLines.{TookOpening}
-use Rattle.cct_script.specs.Source.{AreTold, OfBytes, to_come}
+use Rattle.cct_script.specs.Source.{OfBytes, to_come}
 use Rattle.cct_text.specs.Writing.{IsNothing}
 use Rattle.cct_bench.specs.declared.ending.Ending.{Ending}
 use Rattle.cct_bench.specs.Run.{BeforeSteps, IsOfScript, IsUnopened, Played, Stops, ending_at}
 use Rattle.cct_script.proofs.Continuing.{ended}
+use Rattle.cct_script.proofs.Sources.{told_by}
 use Rattle.cct_bench.proofs.Scripts.{by_run}
 use Rattle.cct_bench.proofs.Staying.{IsDone, setup_stays}
 
@@ -271,13 +271,6 @@ going_plays Relies now later left0 left left1 held rest number stage next setup 
       holds = subst (After (g.played ++ s ∷ [])) (sym on) goes.1;
       wrote = more g.transcript p.report g.wrote p.wrote;
     }
-
--- what was taken and what is still to come are the bytes that a source showed, where it shows any
-pub told_by : (left0 left : Option (List ℕ)) (taken : List ℕ) → Consumes left0 left taken
-    → AreTold left0 (taken ++ to_come left)
-told_by None left taken h = tt
-told_by (Some bytes) None taken h = absurd h
-told_by (Some bytes) (Some rest) taken h = sym h
 
 -- once its steps begin, a script has the setup of its stage
 abbrev pub IsSetupIn : Stage → Setup → Type 0
@@ -695,12 +688,3 @@ pub record Runs {D : Type 0} (On : D → Type 0) (Start Now : Option (List ℕ) 
   pub sink : Sink
   pub disk : Disk
   pub next : IsNext number standing
-
--- a source or a sink that served goes on to
-pub serves_on : {T : Type 0} {told : T → Option (List ℕ)} {faults : T → ℕ} {a b c : T} {Fails : Type 0}
-    → Serves told faults a b ⊥ → Serves told faults b c Fails → Serves told faults a c ⊥
-serves_on first second = record {
-  tells = second.tells ∙ first.tells;
-  later = le_trans first.later second.later;
-  rose = λ never. absurd never;
-}

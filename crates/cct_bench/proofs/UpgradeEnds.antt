@@ -23,7 +23,7 @@ use Rattle.cct_bench.specs.declared.ending.Ending.TheVariants as ending
 use Rattle.cct_bench.specs.declared.outcome.Status.{Status}
 use Rattle.cct_bench.specs.declared.outcome.Status.TheVariants as status
 use Rattle.cct_bench.specs.declared.play.TheConstants.{JOURNAL_BYTES}
-use Rattle.cct_bench.proofs.Going.{told_by}
+use Rattle.cct_script.proofs.Sources.{told_by}
 
 -- ---- a disk of which no call was made
 

@@ -30,7 +30,7 @@ use Rattle.cct_script.specs.declared.stops.ScriptStop.{ScriptStop}
 use Rattle.cct_script.specs.declared.stops.ScriptStop.TheVariants as stop
 use Rattle.cct_script.proofs.Continuing.{answer_ends, ended, line_says}
 use Rattle.cct_bench.proofs.Scripts.{by_upgrade}
-use Rattle.cct_bench.proofs.Going.{told_by}
+use Rattle.cct_script.proofs.Sources.{told_by}
 use Rattle.cct_bench.proofs.Reading.{known_reads, unknown_reads}
 
 -- ---- the lines of its setup

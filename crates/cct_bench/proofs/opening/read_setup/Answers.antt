@@ -11,7 +11,8 @@ use Rattle.cct_bench.specs.Disks.{Always}
 use Rattle.cct_bench.specs.Going.{Going, IsUnbegun}
 use Rattle.cct_bench.specs.Run.{BeforeSteps}
 use Rattle.cct_bench.proofs.SetupLines.{opening_begin, opening_more, opening_stops}
-use Rattle.cct_bench.proofs.Going.{going_begin, going_opens, played_stopped, serves_on}
+use Rattle.cct_bench.proofs.Going.{going_begin, going_opens, played_stopped}
+use Rattle.cct_script.proofs.Sources.{serves_on}
 use Rattle.cct_bench.proofs.opening.read_setup.Goals as goal
 
 pub loop-number-init : goal.loop-number-init

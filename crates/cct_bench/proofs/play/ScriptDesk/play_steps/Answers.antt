@@ -16,7 +16,8 @@ use Rattle.cct_bench.specs.Going.{Going}
 use Rattle.cct_bench.specs.Playing.{read_as}
 use Rattle.cct_bench.specs.Run.{OverCut}
 use Rattle.cct_text.proofs.Writing.{writes_then}
-use Rattle.cct_bench.proofs.Going.{going_opens, going_plays, played_ended, played_stopped, serves_on}
+use Rattle.cct_bench.proofs.Going.{going_opens, going_plays, played_ended, played_stopped}
+use Rattle.cct_script.proofs.Sources.{serves_on}
 use Rattle.cct_bench.proofs.Keeping.{step_ends, world_carried, world_ends}
 use Rattle.cct_world.proofs.Lasting.{lasts_here, lasts_in, lasts_then}
 use Rattle.cct_world.proofs.Relying.{reliable_back}
