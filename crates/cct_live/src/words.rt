@@ -17,7 +17,7 @@ const VERSION: &str = "1.0.0 protocol 1";
 const MORE: &str = "\
 A file that is named setup or adopt is given as ./setup or ./adopt.
 Standard input: the commands of a script, next A, do A, poll, status, state, balance,
-order ID, end.
+stock A COUNT, change FIRST AMOUNT, serve, order ID, end.
 Standard output: the lines of docs/LIVE.md and docs/TRANSCRIPT.md.
 Exit status 0: at end; 1: a line of the setup is refused; 2: wrong words; 3: a file or the port can't be opened or read;
 4: writing failed; 5, 7, 9: the journal (docs/OPERATING.md); 8: no memory; 11: the journal or the port is in use;
