@@ -133,7 +133,7 @@ fn write_known<W: fmt::Write>(
 ) -> fmt::Result {
     let name = form.word();
     if form.part() == part && word == name.as_bytes() {
-        return f.write_str("an upgrade plays no step; after the line begin stands end");
+        return f.write_str("no step is played here; after the line begin stands end");
     }
     if form.part() == part {
         let shown = Shown(word);
