@@ -1,5 +1,6 @@
 mod Cuts
 mod Images
 pub mod Ranges
+pub mod Taking
 mod Tears
 mod Writing

@@ -93,6 +93,25 @@ Spends spent many old new =
     (calls bytes : ℕ) → spent old calls bytes → calls < sure_calls → bytes + many ≤ sure_bytes
     → spent new (calls + 1) (bytes + many)
 
+-- The next calls of a disk never fail: any reads, and so many writes and syncs, of so many bytes in
+-- all.
+pub record Spares {D : Type 0} (spent : D → ℕ → ℕ → Type 0) (calls bytes : ℕ) (disk : D) : Type 0
+  where
+    pub taken : ℕ
+    pub written : ℕ
+    pub is_spent : spent disk taken written
+    pub few : taken + calls ≤ sure_calls
+    pub short : written + bytes ≤ sure_bytes
+
+-- From `old` to `new` at most so many writes and syncs were made, of at most so many bytes in all:
+-- what lies below its noted calls is what it was, and it spares so many less.
+pub record Takes {D : Type 0} (below : D → List ℕ) (spent : D → ℕ → ℕ → Type 0) (calls bytes : ℕ)
+    (old new : D)
+    : Type 0 where
+  pub same_below : below new ≡ below old
+  pub spares : (more many : ℕ) → Spares spent (calls + more) (bytes + many) old
+      → Spares spent more many new
+
 -- a cut at any moment from `old` to `new` might have left only what has P; and one since an earlier
 -- moment only that, or what it might have left before
 pub record LeavesOnly {D : Type 0} (moment : D → ℕ) (left_since : D → ℕ → List ℕ → Type 0)

@@ -44,6 +44,10 @@ pub trait Disk {
     /// 2^64 - 1.
     ghost cuts: { Self → ℕ };
 
+    /// What lies below the calls that it noted: the bytes that its caller's part had before them.
+    /// There are none where it makes its calls itself.
+    ghost below: { Self → List ℕ };
+
     /// What one power cut does by its choice to the object, before and after it, as far as the
     /// object says: so a caller can say that it came from just one, and by which choice where that
     /// is said.
@@ -87,6 +91,7 @@ pub trait Disk {
         // what it leaves alone, and why it fails
         ensures goes_on { GoesOn size honest seen cuts self.old self.new }
         ensures time { Elapses moment left_since may_leave self.old self.new }
+        ensures below { below self.new ≡ below self.old }
         ensures spends { Spends spent (length bytes.now) self.old self.new }
         ensures cause { HasCause (faults self.old) (faults self.new) result };
 
@@ -103,6 +108,7 @@ pub trait Disk {
         // what it leaves alone, and why it fails
         ensures goes_on { GoesOn size honest seen cuts self.old self.new }
         ensures time { Elapses moment left_since may_leave self.old self.new }
+        ensures below { below self.new ≡ below self.old }
         ensures spends { Spends spent 0 self.old self.new }
         ensures cause { HasCause (faults self.old) (faults self.new) result };
 

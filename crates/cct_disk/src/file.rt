@@ -1,6 +1,6 @@
 // A disk over a file, which shows nothing of its bytes.
 ghost use Rattle.std.specs.Prelude.{◌≡◌, ◌↔◌, false, true, None, IfOk, IsTrue, IsOk, IsErr, OnOk};
-ghost use Rattle.std.specs.Prelude.{OnErr, length};
+ghost use Rattle.std.specs.Prelude.{OnErr, [], length};
 ghost use Rattle.cct_edge.specs.Faults.{CountsFaults, next_count};
 ghost use Rattle.cct_disk.specs.Disk.{CountsCut};
 ghost use Rattle.cct_disk.specs.File.{FileGoesOn, FileOutlasts, is_open, file_len, file_faults};
@@ -221,6 +221,8 @@ impl<R: Files> Disk for FileDisk<R> {
     ghost spent = { λ _ _ _. ⊥ };
 
     ghost cuts = { file_cuts };
+
+    ghost below = { λ _. [] };
 
     ghost cut_to = { λ before _ now. file_cuts now ≡ next_count (file_cuts before) };
 

@@ -2,7 +2,7 @@
 // by its number.
 ghost use Rattle.std.specs.Prelude.{◌≡◌, ◌⊎◌, ◌↔◌, ◌+◌, ◌<◌, ◌≤◌, true, Some, IsErr, IfOk, OnOk};
 ghost use Rattle.std.specs.Prelude.{OnErr};
-ghost use Rattle.std.specs.Prelude.{ℕ, List, length, take, drop, set};
+ghost use Rattle.std.specs.Prelude.{ℕ, List, [], length, take, drop, set};
 ghost use Rattle.cct_edge.specs.Faults.{next_count};
 ghost use Rattle.cct_edge.specs.Memory.{FailsNext};
 ghost use Rattle.cct_disk.specs.Content.{written, settled, unsynced_in, may_leave, left_since};
@@ -139,6 +139,8 @@ impl Disk for MemDisk {
     ghost spent = { Spent };
 
     ghost cuts = { λ s. s.cuts };
+
+    ghost below = { λ _. [] };
 
     ghost cut_to = { λ before choice now. IsAfterCut choice before now };
 

@@ -1,6 +1,6 @@
 // A disk in memory that tears a write that is made to fail.
 ghost use Rattle.std.specs.Prelude.{◌≡◌, ◌⊎◌, ◌+◌, ◌≤◌, true, Some, IfOk, OnOk};
-ghost use Rattle.std.specs.Prelude.{ℕ, List, length, take, drop};
+ghost use Rattle.std.specs.Prelude.{ℕ, List, [], length, take, drop};
 ghost use Rattle.cct_edge.specs.Memory.{FailsNext};
 ghost use Rattle.cct_disk.specs.Content.{settled, unsynced_in, may_leave, left_since, ElapsesTo};
 ghost use Rattle.cct_disk.specs.Disk.{SameOutside, Follows, IsWithin, Only};
@@ -71,6 +71,8 @@ impl Disk for TornDisk {
     ghost spent = { λ _ _ _. ⊥ };
 
     ghost cuts = { λ s. s.memory.cuts };
+
+    ghost below = { λ _. [] };
 
     ghost cut_to = { λ before choice now. IsTornAfterCut choice before now };
 

@@ -10,7 +10,7 @@ use cct_edge::Failed;
 /// The most calls that are noted at once: a put makes four, and a turn before it six more.
 pub const MOST_CALLS: usize = 12;
 
-/// The most bytes of the writes that are noted at once: a put with a turn before it writes 1,186.
+/// The most bytes of the writes that are noted at once: a put with a turn before it writes 1,187.
 pub const MOST_BYTES: usize = 1280;
 
 /// A call that a caller has still to make on his part.

@@ -128,6 +128,8 @@ impl Disk for QueueDisk {
 
     ghost cuts = { λ _. 0 };
 
+    ghost below = { λ s. s.base };
+
     ghost cut_to = { λ _ _ _. ⊥ };
 
     ghost fits = { λ s bytes is. fits_bytes s bytes is };

@@ -5,6 +5,7 @@ use Rattle.cct_disk.specs.Disk.{SameOutside, put_at}
 use Rattle.cct_journal.specs.Half.{start_at}
 use Rattle.cct_journal.specs.Gated.{IsBegun, behind_open_gate}
 use Rattle.cct_journal.specs.Places.{behind_start}
+use Rattle.cct_journal.specs.declared.format.TheConstants.{START}
 use Rattle.cct_journal.specs.declared.place.Place.{Place}
 
 -- Where the half begins that isn't the current one.
@@ -44,3 +45,11 @@ IsTurnedBy place carry image c =
 -- What is there at its end.
 abbrev pub turned_by : Place → Carry → List ℕ → List ℕ
 turned_by place carry image = begun_by place carry (closed_by place image)
+
+-- How many writes and syncs a put makes at most, those of a turn before it with them, and of how
+-- many bytes.
+abbrev pub put_calls : ℕ
+put_calls = 10
+
+abbrev pub put_bytes : ℕ
+put_bytes = START + 35

@@ -10,13 +10,14 @@ ghost use Rattle.cct_model_lines.specs.declared.record.Record.{Record};
 ghost use Rattle.cct_record.specs.Body.{Encodable};
 ghost use Rattle.cct_disk.specs.Settle.{Settles};
 ghost use Rattle.cct_disk.specs.Disk.{CountsCut, GoesOn, Holds, IsCutBy, IsWithin, LeavesOnly};
-ghost use Rattle.cct_disk.specs.Disk.{IsReady, OnlyReads, Outlasts};
+ghost use Rattle.cct_disk.specs.Disk.{IsReady, OnlyReads, Outlasts, Takes};
 ghost use Rattle.cct_journal.specs.Image.{StandsFor, StandsForOneOf, half_room, kept_before};
 ghost use Rattle.cct_journal.specs.Image.{least_size};
 ghost use Rattle.cct_journal.specs.Creating.{Creates, IsCreated, RefusesCreate};
 ghost use Rattle.cct_journal.specs.PowerCuts.{LeavesWith, LeftBy, StandsForWith};
 ghost use Rattle.cct_journal.specs.Opening.{Finds, GivesRecord, RefusesOpen, RefusesRecord};
 ghost use Rattle.cct_journal.specs.Opening.{ReplaysAll};
+ghost use Rattle.cct_journal.specs.Turning.{put_bytes, put_calls};
 ghost use Rattle.cct_journal.specs.Stands.{CutOnce, IsPlaced, IsPlaced-prop, Leaves, LeavesOneOf};
 ghost use Rattle.cct_journal.specs.Stands.{Puts, Settled};
 
@@ -79,7 +80,8 @@ impl<D: Disk> Journal<D> {
             (λ e. GoesOn D.size D.honest D.seen D.cuts disk e.0) }
         ensures cause { MatchResult result (λ journal. D.faults disk ≤ D.faults (disk_of journal))
             (λ e. Caused (D.faults disk) (D.faults e.0) (e.1 ≡ CreateNo.Disk)) }
-        ensures sure { IsReady D.spent disk → IfErr result (λ e. e.1 ≢ CreateNo.Disk) }
+        ensures sure { IsReady D.spent disk → MatchResult result
+            (λ journal. D.faults (disk_of journal) ≡ 0) (λ e. e.1 ≢ CreateNo.Disk) }
     {
         let mut disk = disk;
         match lay_header(&mut disk) {
@@ -286,6 +288,8 @@ impl<D: Disk> Journal<D> {
 
         // the disk
         ensures goes_on { GoesOn D.size D.honest D.seen D.cuts (disk_of self.old) (disk_of self.new) }
+        ensures takes { Takes D.below D.spent put_calls put_bytes (disk_of self.old)
+            (disk_of self.new) }
         ensures cause { Caused (D.faults (disk_of self.old)) (D.faults (disk_of self.new))
             (result ≡ Err JournalNo.Disk) }
     {

@@ -5,9 +5,10 @@ ghost use Rattle.cct_model_lines.specs.Carried.{IsRightly};
 ghost use Rattle.cct_model_lines.specs.declared.carry.Carry.{Carry};
 ghost use Rattle.cct_model_lines.specs.declared.record.Record.{Record};
 ghost use Rattle.cct_record.specs.Body.{Encodable};
-ghost use Rattle.cct_disk.specs.Disk.{GoesOn, LeavesOnly};
+ghost use Rattle.cct_disk.specs.Disk.{GoesOn, LeavesOnly, Takes};
 ghost use Rattle.cct_journal.specs.Image.{StandsForOneOf, half_room, kept_before};
 ghost use Rattle.cct_journal.specs.Places.{after_put, turned_or};
+ghost use Rattle.cct_journal.specs.Turning.{put_bytes, put_calls};
 ghost use Rattle.cct_journal.specs.Stands.{IsPlaced, Puts, Stands, StandsWith};
 
 use crate::format::MOST_RECORDS;
@@ -69,6 +70,7 @@ pub(crate) fn put_record<D: Disk>(
     ensures later { IfOk result (λ turned. (turned_or place.now turned).base
         ≤ (turned_or place.now turned).used) }
     ensures goes_on { GoesOn D.size D.honest D.seen D.cuts disk.old disk.new }
+    ensures takes { Takes D.below D.spent put_calls put_bytes disk.old disk.new }
     ensures cause { HasCause (D.faults disk.old) (D.faults disk.new) result }
 {
     let turned = turn_if_full(disk, place, carry)?;
@@ -100,6 +102,7 @@ pub(crate) fn put_next<D: Disk>(
         ≡ kept_before (half_room (D.size disk.old)) (place.old.used - place.old.base) + 1) }
     ensures still { OnErr result (place.new ≡ place.old) }
     ensures goes_on { GoesOn D.size D.honest D.seen D.cuts disk.old disk.new }
+    ensures takes { Takes D.below D.spent put_calls put_bytes disk.old disk.new }
     ensures cause { HasCause (D.faults disk.old) (D.faults disk.new) result }
 {
     if is_full(disk, place) {
@@ -135,6 +138,7 @@ fn put_turned<D: Disk>(
         ≡ kept_before (half_room (D.size disk.old)) (place.old.used - place.old.base) + 1) }
     ensures still { OnErr result (place.new ≡ place.old) }
     ensures goes_on { GoesOn D.size D.honest D.seen D.cuts disk.old disk.new }
+    ensures takes { Takes D.below D.spent put_calls put_bytes disk.old disk.new }
     ensures cause { HasCause (D.faults disk.old) (D.faults disk.new) result }
 {
     let turned = put_record(disk, place, carry, entry, GATED_CALLS)?;

@@ -3,8 +3,7 @@
 ghost use Rattle.std.specs.Prelude.{◌≡◌, ℕ, ◌+◌, ◌^◌, ◌<◌, ◌≤◌, true, Some, List, [], ◌∷◌, length};
 ghost use Rattle.std.specs.Prelude.{OnOk};
 ghost use Rattle.cct_edge.specs.Faults.{HasCause};
-ghost use Rattle.cct_disk.specs.Disk.{GoesOn, Holds, IsReady, LeavesOnly, SameOutside};
-ghost use Rattle.cct_disk.specs.Disk.{put_at, sure_bytes, sure_calls};
+ghost use Rattle.cct_disk.specs.Disk.{GoesOn, Holds, LeavesOnly, SameOutside, Takes, put_at};
 ghost use Rattle.cct_journal.specs.Gated.{IsBegun, behind_open_gate};
 
 use crate::format::OPEN;
@@ -25,9 +24,7 @@ pub(crate) fn write_range<D: Disk>(
         → D.seen disk.old ≡ Some image
         → Holds D.honest D.seen D.may_leave disk.new (put_at image at bytes.now)) }
     ensures goes_on { GoesOn D.size D.honest D.seen D.cuts disk.old disk.new }
-    ensures spends { synced ≡ true → (calls many : ℕ) → D.spent disk.old calls many
-        → calls + 2 ≤ sure_calls → many + length bytes.now ≤ sure_bytes
-        → D.spent disk.new (calls + 2) (many + length bytes.now) }
+    ensures takes { Takes D.below D.spent 2 (length bytes.now) disk.old disk.new }
     ensures cause { HasCause (D.faults disk.old) (D.faults disk.new) result }
 {
     disk.write(at, bytes)?;
@@ -59,8 +56,7 @@ pub(crate) fn write_gated<D: Disk>(
         → D.seen disk.old ≡ Some image
         → Holds D.honest D.seen D.may_leave disk.new (behind_open_gate at bytes.now image)) }
     ensures goes_on { GoesOn D.size D.honest D.seen D.cuts disk.old disk.new }
-    ensures sure { calls ≡ GATED_CALLS → length bytes.now < sure_bytes → IsReady D.spent disk.old
-        → D.faults disk.new ≡ 0 }
+    ensures takes { Takes D.below D.spent 4 (length bytes.now + 1) disk.old disk.new }
     ensures cause { HasCause (D.faults disk.old) (D.faults disk.new) result }
 {
     if calls == 0 {

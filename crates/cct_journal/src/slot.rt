@@ -4,7 +4,7 @@ ghost use Rattle.cct_edge.specs.Faults.{HasCause};
 ghost use Rattle.cct_model_lines.specs.declared.carry.Carry.{Carry};
 ghost use Rattle.cct_model_lines.specs.declared.record.Record.{Record};
 ghost use Rattle.cct_record.specs.Body.{Encodable, InRange, body_of};
-ghost use Rattle.cct_disk.specs.Disk.{GoesOn, LeavesOnly};
+ghost use Rattle.cct_disk.specs.Disk.{GoesOn, LeavesOnly, Takes};
 ghost use Rattle.cct_journal.specs.Image.{StandsFor, StandsForOneOf, room_of};
 ghost use Rattle.cct_journal.specs.Places.{after_put};
 ghost use Rattle.cct_journal.specs.Stands.{IsPlaced, Stands};
@@ -60,6 +60,7 @@ pub(crate) fn put_slot<D: Disk>(
         → Stands carry_of D.honest D.seen D.may_leave disk.old place.now records
         → Stands carry_of D.honest D.seen D.may_leave disk.new (after_put place.now) (records ++ entry.now ∷ [])) }
     ensures goes_on { GoesOn D.size D.honest D.seen D.cuts disk.old disk.new }
+    ensures takes { Takes D.below D.spent 4 33 disk.old disk.new }
     ensures cause { HasCause (D.faults disk.old) (D.faults disk.new) result }
 {
     let len = disk.len();

@@ -5,7 +5,7 @@ ghost use Rattle.cct_edge.specs.Faults.{HasCause};
 ghost use Rattle.cct_model_lines.specs.Carried.{IsRightly};
 ghost use Rattle.cct_model_lines.specs.declared.carry.Carry.{Carry};
 ghost use Rattle.cct_model_lines.specs.declared.record.Record.{Record};
-ghost use Rattle.cct_disk.specs.Disk.{GoesOn, Holds, IsReady, LeavesOnly};
+ghost use Rattle.cct_disk.specs.Disk.{GoesOn, Holds, LeavesOnly, Takes};
 ghost use Rattle.cct_journal.specs.Gated.{IsBegun, behind_open_gate};
 ghost use Rattle.cct_journal.specs.Image.{StandsFor, half_room, kept_before, least_size};
 ghost use Rattle.cct_journal.specs.Image.{room_of};
@@ -42,6 +42,7 @@ fn close_other<D: Disk>(disk: &mut D, place: &Place) -> Result<(), Failed>
     ensures done { OnOk result ((image : List ℕ) → Holds D.honest D.seen D.may_leave disk.old image
         → Holds D.honest D.seen D.may_leave disk.new (closed_by place.now image)) }
     ensures goes_on { GoesOn D.size D.honest D.seen D.cuts disk.old disk.new }
+    ensures takes { Takes D.below D.spent 2 1 disk.old disk.new }
     ensures cause { HasCause (D.faults disk.old) (D.faults disk.new) result }
 {
     let start = start_on(disk.len(), !place.second);
@@ -80,7 +81,7 @@ pub(crate) fn write_start<D: Disk>(
         (behind_open_gate at (behind_start generation base carry.now) image)) }
     ensures whole { length (start_of generation base carry.now) ≡ START }
     ensures goes_on { GoesOn D.size D.honest D.seen D.cuts disk.old disk.new }
-    ensures sure { IsReady D.spent disk.old → D.faults disk.new ≡ 0 }
+    ensures takes { Takes D.below D.spent 4 (START + 1) disk.old disk.new }
     ensures cause { HasCause (D.faults disk.old) (D.faults disk.new) result }
 {
     let bytes = spell_behind(generation, base, carry);
@@ -98,6 +99,7 @@ fn begin_other<D: Disk>(disk: &mut D, place: &Place, carry: &Carry) -> Result<Pl
         → Holds D.honest D.seen D.may_leave disk.new (begun_by place.now carry.now image)) }
     ensures place { IfOk result (λ turned. turned ≡ after_turn place.now carry.now) }
     ensures goes_on { GoesOn D.size D.honest D.seen D.cuts disk.old disk.new }
+    ensures takes { Takes D.below D.spent 4 (START + 1) disk.old disk.new }
     ensures cause { HasCause (D.faults disk.old) (D.faults disk.new) result }
 {
     let generation = place.generation + 1;
@@ -129,6 +131,7 @@ pub(crate) fn turn_half<D: Disk>(
         → Holds D.honest D.seen D.may_leave disk.new (turned_by place.now carry.now image)) }
     ensures place { IfOk result (λ turned. turned ≡ after_turn place.now carry.now) }
     ensures goes_on { GoesOn D.size D.honest D.seen D.cuts disk.old disk.new }
+    ensures takes { Takes D.below D.spent 6 (START + 2) disk.old disk.new }
     ensures cause { HasCause (D.faults disk.old) (D.faults disk.new) result }
 {
     close_other(disk, place)?;
@@ -157,6 +160,7 @@ pub(crate) fn turn_if_full<D: Disk>(
     ensures turns { IfOk result (λ turned. (turned_or place.now turned).used
         - (turned_or place.now turned).base ≡ kept_before (half_room (D.size disk.old)) (place.now.used - place.now.base)) }
     ensures goes_on { GoesOn D.size D.honest D.seen D.cuts disk.old disk.new }
+    ensures takes { Takes D.below D.spent 6 (START + 2) disk.old disk.new }
     ensures cause { HasCause (D.faults disk.old) (D.faults disk.new) result }
 {
     if !is_full(disk, place) {

@@ -4,6 +4,7 @@ use Rattle.cct_journal.specs.Gated.{IsBegun}
 use Rattle.cct_journal.specs.Places.{behind_start}
 use Rattle.cct_journal.proofs.Blanks.{begun_created_by, created_stands, told_image}
 use Rattle.cct_journal.proofs.Moments.{then_leaves}
+use Rattle.cct_disk.proofs.Taking.{takes_sure}
 use Rattle.cct_journal.proofs.creating.lay_header.Goals as goal
 
 pub returns-clause-created : goal.returns-clause-created
@@ -47,4 +48,11 @@ pub returns-in_err-check_blank-clause-sure : goal.returns-in_err-check_blank-cla
 returns-in_err-check_blank-clause-sure g c ready = g.met.D.Disk.unfailed _ 0 0 (c.check_blank.ensures.ready ready)
 
 pub returns-in_err-write_start-clause-sure : goal.returns-in_err-write_start-clause-sure
-returns-in_err-write_start-clause-sure g c ready = c.write_start.ensures.sure (c.check_blank.ensures.ready ready)
+returns-in_err-write_start-clause-sure g c ready =
+    takes_sure g.met.D.Disk.unfailed (omega arith) (omega arith) c.write_start.ensures.takes
+    (c.check_blank.ensures.ready ready)
+
+pub returns-clause-sure : goal.returns-clause-sure
+returns-clause-sure g c ready =
+    takes_sure g.met.D.Disk.unfailed (omega arith) (omega arith) c.write_start.ensures.takes
+    (c.check_blank.ensures.ready ready)

@@ -1,7 +1,9 @@
-use Rattle.std.proofs.Common.{[], ◌∷◌, ◌++◌, sym, subst}
+use Rattle.std.proofs.Common.{[], ◌∷◌, ◌++◌, sym, subst, arith}
 use Rattle.cct_journal.specs.Places.{after_put}
 use Rattle.cct_journal.specs.Stands.{Stands}
 use Rattle.cct_journal.proofs.TurnCalls.{puts_after, turned_puts}
+use Rattle.cct_journal.specs.Turning.{put_bytes, put_calls}
+use Rattle.cct_disk.proofs.Taking.{takes_most, takes_then}
 use Rattle.cct_journal.proofs.putting.put_record.Goals as goal
 
 pub returns-in_err-turned-clause-moments : goal.returns-in_err-turned-clause-moments
@@ -38,3 +40,17 @@ returns-clause-done g c all carry_of records stands =
     (c.in_ok-put_slot.ensures.done all carry_of records
     (subst (λ place. Stands carry_of disk.honest disk.seen disk.may_leave c.turn_if_full.new.disk place records)
     (sym c.place_after.ensures) (c.in_ok-turned.ensures.done carry_of records stands)))
+
+pub returns-in_err-turned-clause-takes : goal.returns-in_err-turned-clause-takes
+returns-in_err-turned-clause-takes g c =
+    takes_most put_calls put_bytes (omega arith) (omega arith) c.turn_if_full.ensures.takes
+
+pub returns-in_err-put_slot-clause-takes : goal.returns-in_err-put_slot-clause-takes
+returns-in_err-put_slot-clause-takes g c =
+    takes_most put_calls put_bytes (omega arith) (omega arith)
+    (takes_then c.turn_if_full.ensures.takes c.put_slot.ensures.takes)
+
+pub returns-clause-takes : goal.returns-clause-takes
+returns-clause-takes g c =
+    takes_most put_calls put_bytes (omega arith) (omega arith)
+    (takes_then c.turn_if_full.ensures.takes c.put_slot.ensures.takes)

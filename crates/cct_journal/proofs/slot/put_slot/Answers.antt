@@ -1,6 +1,7 @@
-use Rattle.std.proofs.Common.{◌≡◌, length, rules}
+use Rattle.std.proofs.Common.{◌≡◌, arith, length, rules}
 use Rattle.std.proofs.lemmas.Result.{on_ok_weaker}
 use Rattle.cct_journal.proofs.Calls.{slot_done, slot_early, slot_moments}
+use Rattle.cct_disk.proofs.Taking.{takes_most}
 use Rattle.cct_journal.proofs.slot.put_slot.Goals as goal
 
 pub returns-clause-moments : goal.returns-clause-moments
@@ -36,3 +37,6 @@ returns-clause-done g c =
     c.bytes_behind-count.result c.len-len.result c.len-len.ensures c.from-slot.result c.from-slot.ensures
     c.start_on.result c.start_on.ensures c.slots_on.result c.slots_on.ensures c.bytes_behind-count.ensures carry_of records stands c.write_gated.new.disk
     (λ image held. done all held.keeps_synced image held.tells)) c.write_gated.ensures.done
+
+pub returns-clause-takes : goal.returns-clause-takes
+returns-clause-takes g c = takes_most 4 33 (omega arith) (search rules) c.write_gated.ensures.takes

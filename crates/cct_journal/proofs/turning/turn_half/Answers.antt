@@ -1,7 +1,9 @@
-use Rattle.std.proofs.Common.{inl, inr}
+use Rattle.std.proofs.Common.{inl, inr, ◌+◌, arith}
 use Rattle.std.proofs.lemmas.Result.{on_ok_weaker}
 use Rattle.cct_journal.specs.Turning.{IsBeginning, IsClosing, IsTurnedBy, closed_by}
 use Rattle.cct_journal.proofs.Moments.{then, weaker}
+use Rattle.cct_journal.specs.declared.format.TheConstants.{START}
+use Rattle.cct_disk.proofs.Taking.{takes_most, takes_then}
 use Rattle.cct_journal.proofs.turning.turn_half.Goals as goal
 
 pub returns-in_err-close_other-clause-moments : goal.returns-in_err-close_other-clause-moments
@@ -27,3 +29,12 @@ returns-clause-done g c =
     on_ok_weaker c.begin_other.result
     (λ done image held. done (closed_by c.args.place.now image) (c.in_ok-close_other.ensures.done image held))
     c.begin_other.ensures.done
+
+pub returns-in_err-close_other-clause-takes : goal.returns-in_err-close_other-clause-takes
+returns-in_err-close_other-clause-takes g c =
+    takes_most 6 (START + 2) (omega arith) (omega arith) c.close_other.ensures.takes
+
+pub returns-clause-takes : goal.returns-clause-takes
+returns-clause-takes g c =
+    takes_most 6 (START + 2) (omega arith) (omega arith)
+    (takes_then c.close_other.ensures.takes c.begin_other.ensures.takes)

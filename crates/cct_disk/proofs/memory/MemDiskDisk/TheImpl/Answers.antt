@@ -1,5 +1,5 @@
 -- A call of the disk in memory does what one of a disk does.
-use Rattle.std.proofs.Common.{arith, rules}
+use Rattle.std.proofs.Common.{arith, refl, rules}
 use Rattle.cct_disk.specs.Content.{settled, written}
 use Rattle.cct_disk.proofs.Writing.{fails_whole, reads_on, replaces, spends, writes}
 use Rattle.cct_disk.proofs.memory.MemDiskDisk.TheImpl.Goals as goal
@@ -29,6 +29,7 @@ write-tells c =
       images = λ _. c.ensures.images;
       goes_on = c.ensures.goes_on;
       time = c.ensures.time;
+      below = refl;
       spends = spends (written c.args.at c.args.bytes.now old.content) _ old new c.result answers.fails.0 answers.after
           (replaces c.args.at c.args.bytes.now old.content);
       cause = answers.cause;
@@ -44,6 +45,7 @@ sync-tells c =
       images = search rules;
       goes_on = search rules;
       time = search rules;
+      below = refl;
       spends = spends (settled old.content) 0 old c.new.self.now c.result answers.fails.0 answers.after (omega arith);
       cause = answers.cause;
     }

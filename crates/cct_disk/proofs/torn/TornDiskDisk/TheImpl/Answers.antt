@@ -1,4 +1,5 @@
 -- A write that may be torn does what a write of a disk does.
+use Rattle.std.proofs.Common.{refl}
 use Rattle.cct_disk.proofs.Writing.{writes, fails_torn}
 use Rattle.cct_disk.proofs.torn.TornDiskDisk.TheImpl.Goals as goal
 
@@ -14,6 +15,7 @@ write-tells c =
       images = λ _. c.ensures.images;
       goes_on = c.ensures.goes_on;
       time = c.ensures.time;
+      below = refl;
       spends = λ _ _ never. absurd never;
       cause = answers.cause;
     }

@@ -22,6 +22,7 @@ write-tells c = record {
   images = λ _. write_follows c.args.at c.args.bytes.now c.args.self.now c.new.self.now c.requires c.result c.ensures.written c.ensures.failed;
   goes_on = write_goes_on c.args.at c.args.bytes.now c.args.self.now c.new.self.now c.requires c.result c.ensures.written c.ensures.failed;
   time = search rules;
+  below = search rules;
   spends = write_spends c.args.self.now c.new.self.now c.args.at c.args.bytes.now c.result c.ensures.written c.ensures.sure;
   cause = c.ensures.cause;
 }
@@ -33,6 +34,7 @@ sync-tells c = record {
   images = λ _. sync_within c.args.self.now c.new.self.now c.result c.ensures.synced c.ensures.failed;
   goes_on = search rules;
   time = search rules;
+  below = search rules;
   spends = sync_spends c.args.self.now c.new.self.now c.result c.ensures.synced c.ensures.sure;
   cause = c.ensures.cause;
 }

@@ -3,6 +3,8 @@ use Rattle.cct_journal.specs.Image.{StandsFor, StandsForOneOf}
 use Rattle.cct_journal.proofs.Leaving.{leaves_one_of}
 use Rattle.cct_journal.proofs.Moments.{weaker}
 use Rattle.cct_journal.proofs.TurnCalls.{same_moments}
+use Rattle.cct_disk.proofs.Taking.{takes_none}
+use Rattle.cct_journal.specs.Turning.{put_bytes, put_calls}
 use Rattle.cct_journal.proofs.journal.Journal.put.Goals as goal
 
 pub returns-then-used-capacity-clause-moments : goal.returns-then-used-capacity-clause-moments
@@ -16,3 +18,6 @@ returns-in-Err-clause-left g c carry_of records stands =
     leaves_one_of g.met.D.Disk.counts_now c.put_next.ensures.goes_on.same_honest
     c.put_next.ensures.goes_on.same_telling stands.stands c.args.entry.now
     (c.put_next.ensures.moments carry_of records stands)
+
+pub returns-then-used-capacity-clause-takes : goal.returns-then-used-capacity-clause-takes
+returns-then-used-capacity-clause-takes g c = takes_none put_calls put_bytes c.args.self.now.disk
