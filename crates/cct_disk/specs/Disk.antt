@@ -93,8 +93,7 @@ Spends spent many old new =
     (calls bytes : ℕ) → spent old calls bytes → calls < sure_calls → bytes + many ≤ sure_bytes
     → spent new (calls + 1) (bytes + many)
 
--- The next calls of a disk never fail: any reads, and so many writes and syncs, of so many bytes in
--- all.
+-- So many more writes and syncs of a disk never fail, of so many bytes in all.
 pub record Spares {D : Type 0} (spent : D → ℕ → ℕ → Type 0) (calls bytes : ℕ) (disk : D) : Type 0
   where
     pub taken : ℕ
@@ -104,7 +103,7 @@ pub record Spares {D : Type 0} (spent : D → ℕ → ℕ → Type 0) (calls byt
     pub short : written + bytes ≤ sure_bytes
 
 -- From `old` to `new` at most so many writes and syncs were made, of at most so many bytes in all:
--- what lies below its noted calls is what it was, and it spares so many less.
+-- what lies below the noted calls is what it was, and of those that never fail no more are gone.
 pub record Takes {D : Type 0} (below : D → List ℕ) (spent : D → ℕ → ℕ → Type 0) (calls bytes : ℕ)
     (old new : D)
     : Type 0 where

@@ -11,7 +11,8 @@ ghost use Rattle.cct_model.specs.Following.{all_follow};
 ghost use Rattle.cct_record.specs.Body.{Encodable};
 ghost use Rattle.cct_journal_carry.specs.Tally as tallies;
 ghost use Rattle.cct_journal.specs.Journal as journals;
-ghost use Rattle.cct_disk.specs.Disk.{GoesOn};
+ghost use Rattle.cct_disk.specs.Disk.{GoesOn, Takes};
+ghost use Rattle.cct_journal.specs.Turning.{put_bytes, put_calls};
 ghost use Rattle.cct_host.specs.Desks as all_desks;
 ghost use Rattle.cct_host.specs.Host.{Advances, FailsToPut, FillsOn, PutFails, Puts, put_by};
 ghost use Rattle.cct_host.specs.Parts.{BelongTogether};
@@ -61,6 +62,8 @@ pub(crate) fn advance<D: Disk, L: Link>(
         (D.faults (journals.disk_of journal.new)) result }
     ensures goes_on { GoesOn D.size D.honest D.seen D.cuts (journals.disk_of journal.old)
         (journals.disk_of journal.new) }
+    ensures takes { Takes D.below D.spent put_calls put_bytes (journals.disk_of journal.old)
+        (journals.disk_of journal.new) }
 {
     let found = desks.find(addr);
     if desks.puts_there(addr, found) {
@@ -109,6 +112,8 @@ fn put_and_go_on<D: Disk, L: Link>(
         (D.faults (journals.disk_of journal.new)) result }
     ensures goes_on { GoesOn D.size D.honest D.seen D.cuts (journals.disk_of journal.old)
         (journals.disk_of journal.new) }
+    ensures takes { Takes D.below D.spent put_calls put_bytes (journals.disk_of journal.old)
+        (journals.disk_of journal.new) }
 {
     let due = desks.due_there(addr, found);
     put(journal, &due, tally.carry())?;
@@ -134,6 +139,8 @@ fn put<D: Disk>(
     ensures cause { HasCause (D.faults (journals.disk_of journal.old))
         (D.faults (journals.disk_of journal.new)) result }
     ensures goes_on { GoesOn D.size D.honest D.seen D.cuts (journals.disk_of journal.old)
+        (journals.disk_of journal.new) }
+    ensures takes { Takes D.below D.spent put_calls put_bytes (journals.disk_of journal.old)
         (journals.disk_of journal.new) }
 {
     match due {

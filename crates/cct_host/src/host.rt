@@ -16,7 +16,8 @@ ghost use Rattle.cct_model.specs.Script.{IsCrash};
 ghost use Rattle.cct_model.specs.Setup.{IsSoundSetup};
 ghost use Rattle.cct_disk.specs.Disk.{IsReady, OnlyReads};
 ghost use Rattle.cct_journal.specs.Journal as journals;
-ghost use Rattle.cct_disk.specs.Disk.{GoesOn};
+ghost use Rattle.cct_disk.specs.Disk.{GoesOn, Takes};
+ghost use Rattle.cct_journal.specs.Turning.{put_bytes, put_calls};
 ghost use Rattle.cct_disk.specs.Settle.{Settles};
 ghost use Rattle.cct_host.specs.Desks as all_desks;
 ghost use Rattle.cct_host.specs.Parts.{BelongTogether, BelongTogether-prop};
@@ -105,8 +106,8 @@ impl<'s, D: Disk> Host<'s, D> {
             → FirstFollow setup.now reads → RefusesStart e.1 setup.now records) }
         ensures cause { MatchResult result (λ host. D.faults (journals.disk_of journal) ≤ D.faults (disk_of host))
             (λ e. Caused (D.faults (journals.disk_of journal)) (D.faults e.0) (e.1 ≡ StartNo.Disk)) }
-        ensures sure { IsReady D.spent (journals.disk_of journal)
-            → IfErr result (λ e. e.1 ≢ StartNo.Disk) }
+        ensures sure { IsReady D.spent (journals.disk_of journal) → MatchResult result
+            (λ host. IsReady D.spent (disk_of host)) (λ e. e.1 ≢ StartNo.Disk) }
 
         // over a journal without records
         ensures starts { journals.used_of journal ≡ 0 → IsTrue (is_ok result) }
@@ -285,6 +286,8 @@ impl<'s, D: Disk> Host<'s, D> {
         // the disk
         ensures cause { HasCause (D.faults (disk_of self.old)) (D.faults (disk_of self.new)) result }
         ensures goes_on { GoesOn D.size D.honest D.seen D.cuts (disk_of self.old) (disk_of self.new) }
+        ensures takes { Takes D.below D.spent put_calls put_bytes (disk_of self.old)
+            (disk_of self.new) }
     {
         report.push(Entry::Words);
         match self.attempt(addr, link, report) {
@@ -336,6 +339,8 @@ impl<'s, D: Disk> Host<'s, D> {
         // the disk
         ensures cause { HasCause (D.faults (disk_of self.old)) (D.faults (disk_of self.new)) result }
         ensures goes_on { GoesOn D.size D.honest D.seen D.cuts (disk_of self.old) (disk_of self.new) }
+        ensures takes { Takes D.below D.spent put_calls put_bytes (disk_of self.old)
+            (disk_of self.new) }
     {
         self.attempt(addr, link, report)
     }
@@ -377,6 +382,8 @@ impl<'s, D: Disk> Host<'s, D> {
         // the disk
         ensures cause { HasCause (D.faults (disk_of self.old)) (D.faults (disk_of self.new)) result }
         ensures goes_on { GoesOn D.size D.honest D.seen D.cuts (disk_of self.old) (disk_of self.new) }
+        ensures takes { Takes D.below D.spent put_calls put_bytes (disk_of self.old)
+            (disk_of self.new) }
     {
         advance(
             &mut self.desks,

@@ -80,6 +80,18 @@ pub if_ok_more : {T E : Type 0} {P Q : T → Type 0} (r : Result T E) → ((x : 
 if_ok_more (Ok x) more is = more x is
 if_ok_more (Err why) more is = tt
 
+-- a host over a journal that is still as it was
+pub still_unfailed : {D : Type 0} {g : Ghosts D} (journal : Journal D g) (host : Host D g) → journal_of host ≡ journal
+    → g.faults (journals.disk_of journal) ≡ 0 → g.faults (disk_of host) ≡ 0
+still_unfailed {D} {g} journal host same unfailed =
+    ap (λ (j : Journal D g). g.faults (journals.disk_of j)) same ∙ unfailed
+
+-- what two clauses say of it
+pub if_ok_both : {T E : Type 0} {P Q R : T → Type 0} (r : Result T E) → ((x : T) → P x → Q x → R x) → IfOk r P → IfOk r Q
+    → IfOk r R
+if_ok_both (Ok x) both is also = both x is also
+if_ok_both (Err why) both is also = tt
+
 module _ {D : Type 0} {g : Ghosts D} (disk : D) (journal : Journal D g) (setup : Setup) (part : List ℕ)
     (seen_is : g.seen disk ≡ Some part) where
   -- what was found is what the part has

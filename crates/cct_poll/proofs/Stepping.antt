@@ -1,14 +1,17 @@
 -- A `next` over a wire that gives what the caller heard is a step of his host.
-use Rattle.std.proofs.Common.{◌≡◌, ◌≤◌, ℕ, List, [], ◌++◌, length, reverse, refl, sym, ◌∙◌, ap, subst, true, Option, Some, None, Result, Ok, Err, OnErr, OnOk}
+use Rattle.std.proofs.Common.{◌≡◌, ◌≤◌, ℕ, List, [], ◌++◌, length, reverse, refl, sym, ◌∙◌, ap, subst, true, arith, Option, Some, None, Result, Ok, Err, OnErr, OnOk}
 use Rattle.std.specs.Prelude.{is_some}
 use Rattle.cct_model.specs.lines.entry.Entry.{Entry}
 use Rattle.cct_model.specs.terms.wire.TheConstants.{MOST_HEARD}
 use Rattle.cct_disk.specs.declared.disk.Disk.{Ghosts}
+use Rattle.cct_disk.specs.Disk.{IsReady}
+use Rattle.cct_disk_queue.specs.Calls.{bytes_in}
+use Rattle.cct_disk_queue.specs.Queue.{Queue, Spent}
 use Rattle.cct_host.specs.declared.host.Host.{Host}
 use Rattle.cct_host.specs.Attempt.{Attempt, HeardBy, Links, asked, idle, news_of, put, sent_of}
 use Rattle.cct_host.specs.Desks.{due_on, sending_on}
 use Rattle.cct_host.specs.Held.{piece_of}
-use Rattle.cct_host.specs.Host.{Nexts}
+use Rattle.cct_host.specs.Host.{Nexts, disk_of}
 use Rattle.cct_host.proofs.Alone.{due_alone}
 use Rattle.cct_poll.specs.declared.canned.Canned.{Canned}
 use Rattle.cct_poll.specs.Canned.{Gave}
@@ -41,13 +44,22 @@ sends_none (put r end) is = refl
 pub steps_of : {D : Type 0} {g : Ghosts D} (old new : Canned) (addr : ℕ) (before after : Host D g)
     (report reported : List Entry) (piece heard : List ℕ) (nexts : Nexts gives old new addr before after report reported)
     → report ≡ [] → length heard ≤ MOST_HEARD → old.heard.now ≡ heard → Sends piece nexts.what
-    → Steps piece heard addr before after reported
-steps_of old new addr before after report reported piece heard nexts empty few is sends = record {
+    → g.below (disk_of after) ≡ g.below (disk_of before) → Steps piece heard addr before after reported
+steps_of old new addr before after report reported piece heard nexts empty few is sends same = record {
   what = nexts.what;
   told_is = nexts.reported_is ∙ ap (λ (l : List Entry). l ++ reverse (news_of addr nexts.what)) empty;
   sent_is = sends;
   goes = λ past stands suits. nexts.goes (λ sent. heard) past (heard_by old new nexts.what heard nexts.link few is) stands suits;
+  part = same;
   moments = nexts.moments;
+}
+
+-- a disk on which no call is noted, and of which none failed, takes a put
+pub settled_ready : (disk : Queue) → disk.calls ≡ [] → disk.faults ≡ 0 → IsReady Spent disk
+settled_ready disk none unfailed = record {
+  unfailed = unfailed;
+  few = omega (arith, ap length none);
+  short = omega (arith, ap bytes_in none);
 }
 
 none_there : {X : Type 0} (x : Option X) → is_some x ≡ true → x ≡ None → ⊥

@@ -38,6 +38,8 @@ module _ {D : Type 0} {g : Ghosts D} where
     pub goes : (past : List Entry) → StandsFor before past → PutSuits (setup_of before) past addr
         → EntriesOfNext (λ sent. heard) (setup_of before) past addr (news_of addr what)
         × StandsFor after (news_of addr what ++ past)
+    -- What the part held before the calls that are noted is what it was.
+    pub part : g.below (disk_of after) ≡ g.below (disk_of before)
     -- Each image that a power cut might have left on a trusted disk while its calls were noted
     -- stands for the records of the past, or for these and the one that is put.
     pub moments : (past : List Entry) → StandsFor before past →

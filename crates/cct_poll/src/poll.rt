@@ -3,7 +3,6 @@ ghost use Rattle.std.specs.Prelude.{◌≡◌, ◌<◌, ◌≤◌, ◌+◌, ℕ,
 ghost use Rattle.std.specs.Prelude.{IsOk, IsTrue, is_some, ◌↔◌, ◌≢◌, ◌⊎◌, OnErr, OnOk, List, Some};
 ghost use Rattle.std.specs.Prelude.{None, reverse, slice_get};
 ghost use Rattle.std.specs.Option.{IfSome, option_map};
-ghost use Rattle.cct_edge.specs.Faults.{Rose};
 ghost use Rattle.cct_host.specs.Desks.{due_on, sending_on};
 ghost use Rattle.cct_host.specs.Host.{Keeps, StandsFor, disk_of, has_failed, setup_of};
 ghost use Rattle.cct_journal.specs.Image.{IsAlien};
@@ -16,7 +15,7 @@ ghost use Rattle.cct_model.specs.lines.entry.Entry.{Entry};
 ghost use Rattle.cct_model.specs.terms.wire.TheConstants.{MOST_HEARD};
 ghost use Rattle.cct_disk.specs.Disk.{IsReady};
 ghost use Rattle.cct_disk_queue.specs.Calls.{act_of};
-ghost use Rattle.cct_disk_queue.specs.Queue.{Spent};
+ghost use Rattle.cct_disk_queue.specs.Queue.{Spent, bytes_of};
 ghost use Rattle.cct_poll.specs.Starts.{RefusesStart, Starts, WasFound, WasMade, untouched};
 ghost use Rattle.cct_poll.specs.Awaits.{Awaits, Awaits-prop};
 ghost use Rattle.cct_poll.specs.Steps.{Says, Steps, Tells};
@@ -64,7 +63,8 @@ pub struct Poll<'s> {
     asked: Option<u8>,
     piece: ArrayVec<u8, MOST_SENT>,
     over: bool,
-    ghost whole: { over ≡ false → has_failed host ≡ false },
+    ghost whole: { has_failed host ≡ false },
+    ghost unfailed: { (disk_of host).faults ≡ 0 },
     ghost awaits: { Awaits asked host.desks piece.items } by { Awaits-prop asked host.desks piece.items },
     ghost counts: { 0 < made → made < length (disk_of host).calls },
 }
@@ -180,6 +180,8 @@ impl<'s> Poll<'s> {
         ensures fresh { OnOk result ((self.new.told ≡ 0) × (self.new.asked ≡ None)
             × (self.new.made ≡ self.old.made)) }
         ensures over { self.new.over ≡ self.old.over }
+        // Nothing is to be made on the part.
+        ensures part { disk_of self.new.host ≡ disk_of self.old.host }
         ensures due { IsOk result ↔ IsQuiet self.old }
         ensures stays { OnErr result (self.new ≡ self.old) }
     {
@@ -201,6 +203,7 @@ impl<'s> Poll<'s> {
 
     /// This was heard after the piece was sent, its echo first where the line gives one; no bytes
     /// where nothing came.
+    #[tactic(auto, using(crate::proofs::Stepping::settled_ready))]
     pub fn heard(&mut self, bytes: &[u8]) -> Result<(), NotNow>
         requires few { length bytes.now ≤ MOST_HEARD }
         ensures settled { OnOk result ((disk_of self.old.host).calls ≡ []) }
@@ -233,15 +236,15 @@ impl<'s> Poll<'s> {
     }
 
     /// The record that is due at an address is put: its calls are then to be made.
+    #[tactic(auto, using(crate::proofs::Stepping::settled_ready))]
     pub fn put(&mut self, addr: u8) -> Result<(), NotNow>
         ensures settled { OnOk result ((disk_of self.old.host).calls ≡ []) }
         ensures setup { setup_of self.new.host ≡ setup_of self.old.host }
         // One attempt of the host at the address, which sent nothing.
-        ensures steps { OnOk result (self.new.over ≡ false
-            → Steps [] [] addr self.old.host self.new.host self.new.report.items) }
-        // It is over only where a call of the disk failed.
-        ensures loses { OnOk result (self.new.over ≡ true
-            → Rose (disk_of self.old.host).faults (disk_of self.new.host).faults) }
+        ensures steps { OnOk result (Steps [] [] addr self.old.host self.new.host
+            self.new.report.items) }
+        // Its calls are noted whatever happened before, so the host isn't over by it.
+        ensures over { self.new.over ≡ self.old.over }
         // None of its entries was taken yet.
         ensures fresh { OnOk result ((self.new.told ≡ 0) × (self.new.asked ≡ None)
             × (self.new.made ≡ self.old.made)) }
@@ -254,7 +257,7 @@ impl<'s> Poll<'s> {
         }
         self.report.clear();
         self.told = 0;
-        self.over = put(&mut self.host, addr, &mut self.report).is_err();
+        put(&mut self.host, addr, &mut self.report);
         Ok(())
     }
 
@@ -264,11 +267,13 @@ impl<'s> Poll<'s> {
         ensures stands { (past : List Entry) → StandsFor self.old.host past →
             StandsFor self.new.host past }
         ensures over { self.new.over ≡ self.old.over }
-        // The next one is due; after the last one none is noted any more.
+        // The next one is due; after the last one none is noted any more, and the part has what
+        // they made of it.
         ensures next { OnOk result (((self.old.made + 1 < length (disk_of self.old.host).calls)
             × (self.new.made ≡ self.old.made + 1) × (self.new.host ≡ self.old.host))
             ⊎ ((self.old.made + 1 ≡ length (disk_of self.old.host).calls)
-            × (self.new.made ≡ 0) × ((disk_of self.new.host).calls ≡ []))) }
+            × (self.new.made ≡ 0) × ((disk_of self.new.host).calls ≡ [])
+            × ((disk_of self.new.host).base ≡ bytes_of (disk_of self.old.host)))) }
         // What is reported and heard stays.
         ensures rest { (self.new.report ≡ self.old.report) × (self.new.told ≡ self.old.told)
             × (self.new.asked ≡ self.old.asked) × (self.new.piece ≡ self.old.piece) }
@@ -360,7 +365,8 @@ fn journal_on(part: Vec<u8>) -> Result<Journal<QueueDisk>, PollNo>
     ensures opens { IfOk result (λ journal. WasFound journal (untouched part.items)
         ⊎ WasMade journal (untouched part.items)) }
     // No call of its disk fails while a host is started over it.
-    ensures sure { IfOk result (λ journal. (journals.used_of journal ≡ 0)
+    ensures sure { IfOk result (λ journal.
+        ((journals.used_of journal ≡ 0) × ((journals.disk_of journal).faults ≡ 0))
         ⊎ IsReady Spent (journals.disk_of journal)) }
     ensures refused { IfErr result (λ why. (setup : Setup) → RefusesStart setup part.items why) }
 {
@@ -377,6 +383,7 @@ fn make_journal(part: Vec<u8>) -> Result<Journal<QueueDisk>, PollNo>
     requires { IsAlien part.items }
     ensures whole { IfOk result (λ journal. journals.has_failed journal ≡ false) }
     ensures made { IfOk result (λ journal. WasMade journal (untouched part.items)) }
+    ensures sure { IfOk result (λ journal. (journals.disk_of journal).faults ≡ 0) }
     ensures refused { IfErr result (λ why. (setup : Setup) → RefusesStart setup part.items why) }
 {
     match Journal::create(QueueDisk::new(part)) {

@@ -12,6 +12,8 @@ use Rattle.cct_host.specs.Desks.{due_on, setup_of}
 use Rattle.cct_host.specs.Host.{put_by}
 use Rattle.cct_host.proofs.Fills.{fills_none}
 use Rattle.cct_host.proofs.Putting.{same_moments}
+use Rattle.cct_disk.proofs.Taking.{takes_none}
+use Rattle.cct_journal.specs.Turning.{put_bytes, put_calls}
 use Rattle.cct_host.proofs.advance.advance.Goals as goal
 
 none_there : (due : Option Record) → false ≡ is_some due → due ≡ None
@@ -52,3 +54,6 @@ returns-else-puts_there-clause-advances g c =
 
 pub returns-else-puts_there-clause-fills : goal.returns-else-puts_there-clause-fills
 returns-else-puts_there-clause-fills g c = fills_none c.args.journal.now
+
+pub returns-else-puts_there-clause-takes : goal.returns-else-puts_there-clause-takes
+returns-else-puts_there-clause-takes g c = takes_none put_calls put_bytes (journals.disk_of c.args.journal.now)

@@ -6,6 +6,8 @@ use Rattle.cct_host.specs.Host.{put_by}
 use Rattle.cct_host.proofs.Fills.{fills_none, fills_one}
 use Rattle.cct_host.proofs.Putting.{same_moments}
 use Rattle.cct_host.specs.OnDisk.{KeepsRecords, StandsUpTo}
+use Rattle.cct_disk.proofs.Taking.{takes_none}
+use Rattle.cct_journal.specs.Turning.{put_bytes, put_calls}
 use Rattle.cct_host.proofs.advance.put.Goals as goal
 
 none_some : {X : Type 0} {x : X} → None ≡ Some x → ⊥
@@ -72,3 +74,6 @@ pub returns-in-Ok-clause-fills : goal.returns-in-Ok-clause-fills
 returns-in-Ok-clause-fills g c =
     let put = c.in-Ok.ensures in
     fills_one c.args.journal.now c.put.new.self put.counted put.turns
+
+pub returns-in-None-clause-takes : goal.returns-in-None-clause-takes
+returns-in-None-clause-takes g c = takes_none put_calls put_bytes (journals.disk_of c.args.journal.now)

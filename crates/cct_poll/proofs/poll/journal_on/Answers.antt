@@ -6,7 +6,7 @@ use Rattle.cct_journal.specs.Image.{IsAlien, IsBadAt}
 use Rattle.cct_journal.specs.Opening.{RefusesOpen}
 use Rattle.cct_model.specs.terms.device.Setup.{Setup}
 use Rattle.cct_poll.specs.Starts.{RefusesStart, WasFound, WasMade, untouched}
-use Rattle.cct_poll.proofs.Starting.{if_ok_more, some_same}
+use Rattle.cct_poll.proofs.Starting.{if_ok_both, if_ok_more, some_same}
 use Rattle.cct_poll.proofs.poll.journal_on.Goals as goal
 
 pub returns-in-Ok-clause-opens : goal.returns-in-Ok-clause-opens
@@ -37,7 +37,8 @@ returns-in-Err-default-Alien-clause-opens c =
 
 pub returns-in-Err-default-Alien-clause-sure : goal.returns-in-Err-default-Alien-clause-sure
 returns-in-Err-default-Alien-clause-sure c =
-    if_ok_more c.make_journal.result (λ journal was. inl was.creates.none) c.make_journal.ensures.made
+    if_ok_both c.make_journal.result (λ journal was unfailed. inl (was.creates.none, unfailed)) c.make_journal.ensures.made
+    c.make_journal.ensures.sure
 
 pub returns-in-Err-default-Alien-clause-refused : goal.returns-in-Err-default-Alien-clause-refused
 returns-in-Err-default-Alien-clause-refused c =

@@ -31,3 +31,6 @@ returns-in-Err-default-NotBlank-clause-refused c = λ setup.
     refused_alien setup c.args.part.items c.in-Err-default-NotBlank.field-0-1-0 _ _ c.in-Err-default-NotBlank.field-0-1
     c.in-Err-default-NotBlank.field-0-1-is c.requires c.in-Err-default-NotBlank.ensures.refused
     (ap (λ disk. length (bytes_of disk)) c.new.ensures.value) (ap (λ disk. Some (bytes_of disk)) c.new.ensures.value)
+
+pub returns-in-Ok-clause-sure : goal.returns-in-Ok-clause-sure
+returns-in-Ok-clause-sure c = c.in-Ok.ensures.sure c.new.ensures.ready

@@ -44,6 +44,9 @@ returns-in-Err-clause-refused g c records reads first =
     refuses_start c.args.setup.now _ _ reads.rest records c.requires.sound reads.continues c.in-Err.why first
     (c.in-Err.ensures.refused reads.rest reads.reads)
 
+pub returns-in-Ok-clause-sure : goal.returns-in-Ok-clause-sure
+returns-in-Ok-clause-sure g c ready = c.replay_all.ensures.reads.ready ready
+
 pub returns-in-Err-clause-sure : goal.returns-in-Err-clause-sure
 returns-in-Err-clause-sure g c ready = λ failed.
     let only = c.replay_all.ensures.reads in
