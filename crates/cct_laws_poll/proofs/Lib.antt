@@ -1,3 +1,5 @@
 mod Beginning
+mod Calls
 mod Keeping
 mod Living
+mod Parts

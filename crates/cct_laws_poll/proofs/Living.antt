@@ -1,5 +1,5 @@
 -- A run of a host is steps of a live host.
-use Rattle.std.proofs.Common.{◌≡◌, ◌≤◌, ℕ, List, [], ◌∷◌, ◌++◌, length, reverse, sym, ap, subst, ◌∙◌, append_assoc}
+use Rattle.std.proofs.Common.{◌≡◌, List, [], ◌∷◌, ◌++◌, reverse, sym, ap, subst, ◌∙◌, append_assoc}
 use Rattle.std.proofs.lemmas.List.{append-nil, reverse-reverse}
 use Rattle.cct_model.specs.lines.entry.Entry.{Entry}
 use Rattle.cct_model.specs.lines.record.Record.{Record}
@@ -18,11 +18,11 @@ use Rattle.cct_laws_live.proofs.Life.{life_command, life_next}
 use Rattle.cct_live_service.proofs.Suiting.{life_suits}
 use Rattle.cct_laws_poll.specs.Runs.{Deed, Does, LivesOn, Runs, advanced, commanded, made}
 
-told_news : (past news : List Entry) → onto past (reverse news) ≡ news ++ past
+pub told_news : (past news : List Entry) → onto past (reverse news) ≡ news ++ past
 told_news past news = onto_is past (reverse news) ∙ ap (λ l. l ++ past) (reverse-reverse news)
 
 module _ {D : Type 0} {g : Ghosts D} (found : List Record) where
-  one : (deed : Deed) (steps : List LiveStep) (past : List Entry) (before after : Host D g) (told : List Entry)
+  pub one : (deed : Deed) (steps : List LiveStep) (past : List Entry) (before after : Host D g) (told : List Entry)
       → IsSoundSetup (setup_of before) → IsLife MOST_RECORDS (setup_of before) found steps past → StandsFor before past
       → Does deed before after told → LivesOn (setup_of before) found steps past after told
   one (commanded c) steps past before after told sound life stands does =

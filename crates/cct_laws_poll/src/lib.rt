@@ -5,6 +5,7 @@ ghost use Rattle.std.specs.Prelude.{◌≡◌, ℕ, List, [], reverse};
 ghost use Rattle.cct_model.specs.lines.entry.Entry.{Entry};
 ghost use Rattle.cct_model.specs.lines.record.Record.{Record};
 ghost use Rattle.cct_model.specs.Setup.{IsSoundSetup};
+ghost use Rattle.cct_model.specs.Transcript.{onto};
 ghost use Rattle.cct_journal.specs.declared.format.TheConstants.{MOST_RECORDS};
 ghost use Rattle.cct_model.specs.Records.{records};
 ghost use Rattle.cct_host.specs.Attempt.{put_of};
@@ -16,7 +17,8 @@ ghost use Rattle.cct_laws_live.specs.Live.{started};
 ghost use Rattle.cct_poll.specs.declared.poll.Poll.{Poll};
 ghost use Rattle.cct_poll.specs.Starts.{HeldRecords, Starts};
 ghost use Rattle.cct_poll.specs.Steps.{Steps};
-ghost use Rattle.cct_disk_queue.specs.Calls.{Since};
+ghost use Rattle.cct_disk_queue.specs.Calls.{Act, Since};
+ghost use Rattle.cct_laws_poll.specs.Parts.{KeepsPast, MayHave, RunsOn};
 ghost use Rattle.cct_laws_poll.specs.Runs.{Deed, LivesOn, Runs};
 
 /// A host that was started over a part begins a life over the records that the part held, and
@@ -47,4 +49,17 @@ pub fn a_part_keeps_the_records()
         → StandsFor before.host past → (image : List ℕ)
         → Since (disk_of after.host).base (disk_of after.host).calls 0 image
         → StandsUpTo (setup_of before.host) (put_of step.what) (reverse (records past)) image }
+{}
+
+/// From a host on whose part no call is left to be made, however long a program then does what it
+/// asks for: whatever a power cut leaves of the part, between two calls or in one, represents the
+/// records of all that was reported; or, while the calls of a put are made, all but that one. A law:
+/// its body is empty.
+pub fn a_run_keeps_its_part()
+    ensures { (found : List Record) (deeds : List Deed) (steps : List LiveStep) (past : List Entry) (before after : Poll)
+        (told : List Entry) (calls : List Act) → IsSoundSetup (setup_of before.host)
+        → IsLife MOST_RECORDS (setup_of before.host) found steps past → StandsFor before.host past
+        → (disk_of before.host).calls ≡ [] → RunsOn deeds before after told calls → (image : List ℕ)
+        → MayHave (disk_of before.host).base calls after image
+        → KeepsPast (setup_of before.host) after (onto past told) image }
 {}
