@@ -1,7 +1,6 @@
 //! A host, step by step, as a program in another language meets it.
-ghost use Rattle.std.specs.Prelude.{◌≡◌, ◌⊎◌, ◌↔◌, ◌<◌, [], Err, IfOk, IsOk, None, false, length};
+ghost use Rattle.std.specs.Prelude.{◌≡◌, ◌⊎◌, ◌↔◌, ◌<◌, [], Err, IfOk, IsOk, None, length};
 ghost use Rattle.std.specs.Prelude.{take, true};
-ghost use Rattle.cct_edge.specs.Faults.{Rose};
 ghost use Rattle.cct_host.specs.Host.{disk_of};
 ghost use Rattle.cct_poll.specs.Starts.{RefusesStart, Starts};
 ghost use Rattle.cct_poll.specs.Steps.{Tells};
@@ -122,10 +121,9 @@ impl Hosted {
         // The message is the one that the host then heard a reply to.
         ensures sends { result ≡ OK → ask.new.what ≡ SEND → take ask.new.count out.new
             ≡ self.new.poll.piece.items }
-        // It has ended only where it is over, as it becomes only by a put of which a call failed.
+        // It has ended only where it is over, and it isn't over by what it is asked.
         ensures ends { result ≡ OK → ask.new.what ≡ ENDED → self.new.poll.over ≡ true }
-        ensures loses { self.old.poll.over ≡ false → self.new.poll.over ≡ true
-            → Rose (disk_of self.old.poll.host).faults (disk_of self.new.poll.host).faults }
+        ensures over { self.new.poll.over ≡ self.old.poll.over }
     {
         if out.len() < MOST_TEXT {
             return NO_ROOM;
@@ -152,9 +150,8 @@ impl Hosted {
         ensures call { result ≡ Ask.Make
             → self.new.poll.made < length (disk_of self.new.poll.host).calls }
         ensures entry { result ≡ Ask.Take → self.new.poll.told < length self.new.poll.report.items }
-        ensures over { result ≡ Ask.Over → self.new.poll.over ≡ true }
-        ensures loses { self.old.poll.over ≡ false → self.new.poll.over ≡ true
-            → Rose (disk_of self.old.poll.host).faults (disk_of self.new.poll.host).faults }
+        ensures ends { result ≡ Ask.Over → self.new.poll.over ≡ true }
+        ensures over { self.new.poll.over ≡ self.old.poll.over }
     {
         match self.poll.ask(address) {
             Ask::Put => match self.poll.put(address) {

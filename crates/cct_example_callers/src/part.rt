@@ -1,5 +1,5 @@
 //! A journal on a memory part whose erased bytes are ff, as those of an EEPROM are.
-ghost use Rattle.std.specs.Prelude.{◌≡◌, ◌+◌, ◌≤◌, None, false, length};
+ghost use Rattle.std.specs.Prelude.{◌≡◌, ◌+◌, ◌≤◌, None, [], false, length};
 ghost use Rattle.cct_edge.specs.Faults.{HasCause, next_count};
 ghost use Rattle.cct_disk.specs.Laws.{untold_fits};
 
@@ -114,6 +114,8 @@ impl Disk for PartDisk {
     ghost spent = { λ _ _ _. ⊥ };
 
     ghost cuts = { λ s. s.cuts };
+
+    ghost below = { λ _. [] };
 
     ghost cut_to = { λ before _ now. now.cuts ≡ next_count before.cuts };
 

@@ -1,6 +1,6 @@
 //! A disk of bytes in memory that counts its calls and keeps no trace of them, so it takes any
 //! number.
-ghost use Rattle.std.specs.Prelude.{◌≡◌, None, false, length};
+ghost use Rattle.std.specs.Prelude.{◌≡◌, None, [], false, length};
 ghost use Rattle.cct_edge.specs.Faults.{next_count};
 ghost use Rattle.cct_disk.specs.Laws.{untold_fits};
 
@@ -60,6 +60,8 @@ impl Disk for PlainDisk {
     ghost spent = { λ _ _ _. ⊥ };
 
     ghost cuts = { λ s. s.cuts };
+
+    ghost below = { λ _. [] };
 
     ghost cut_to = { λ before _ now. now.cuts ≡ next_count before.cuts };
 
