@@ -1,5 +1,5 @@
 -- What is right of the desk of the operator at any time.
-use Rattle.std.specs.Prelude.{ℕ, ◌<◌, ◌≤◌, Option, Some, None, ⊤}
+use Rattle.std.specs.Prelude.{◌<◌, ◌≤◌, Option, Some, None, ⊤}
 use Rattle.std.specs.List.{All}
 use Rattle.cct_model.specs.declared.change.Session.{Session}
 use Rattle.cct_model.specs.Change.{Desk}

@@ -1,7 +1,8 @@
 -- What holds of a device that takes money beside the coins that its lines show, and what moves keep
 -- it. A bill is a coin once it is stacked; one that is held is none.
-use Rattle.std.proofs.Common.{◌≡◌, ◌≢◌, ℕ, suc, ◌+◌, ◌≤◌, ◌⊎◌, inl, inr, ◌&&◌, Bool, true, false, List, [], ◌∷◌, ◌++◌, length, refl, ap, sym, ◌∙◌, subst, arith, ne_eqb}
+use Rattle.std.proofs.Common.{◌≡◌, ◌≢◌, ℕ, suc, ◌+◌, ◌≤◌, ◌⊎◌, inl, inr, true, false, List, [], ◌∷◌, ◌++◌, length, refl, ap, sym, ◌∙◌, subst, arith, ne_eqb}
 use Rattle.std.specs.Prelude.{◌%◌, ◌^◌, Option, Some, None, ⊤}
+use Rattle.std.proofs.Math.Bool.{and-false}
 use Rattle.std.proofs.lemmas.Bool.Decides.{nat_tests}
 use Rattle.cct_model.specs.terms.coin.Pair.{Pair}
 use Rattle.cct_model.specs.terms.coin.Coin.{Coin}
@@ -111,13 +112,9 @@ tracks_on w v mask k m goes tracks = record {
 
 -- a mask of 0 has no place
 
-no_place : (place : ℕ) → has_place 0 place ≡ false
+pub no_place : (place : ℕ) → has_place 0 place ≡ false
 unfolding has_place
 no_place place = grind (arith, nat_tests)
-
-and_false : (b : Bool) → (b && false) ≡ false
-and_false true = refl
-and_false false = refl
 
 pub closed : (w : World) → mask_at w ≡ 0 → Shut w
 closed w zero_mask place = rw (zero_mask, no_place place) refl
@@ -321,7 +318,7 @@ on_settings w settings same_mask stays_shut =
 
 -- the master inhibit closes every place
 pub shut_by_master : (w : World) → Shut (with_settings w (master_set 0 ∷ w.settings))
-shut_by_master w place = and_false (has_place (mask_in w.settings) place)
+shut_by_master w place = and-false (has_place (mask_in w.settings) place)
 
 pub on_master : (w : World) → On w (with_settings w (master_set 0 ∷ w.settings))
 on_master w = on_settings w (master_set 0 ∷ w.settings) refl (λ shut. shut_by_master w)

@@ -1,7 +1,6 @@
 -- What is reported of the desk of the operator alone brings no device anything, and no scan, no
 -- sale and no record.
-use Rattle.std.proofs.Common.{◌≡◌, ℕ, List, [], ◌∷◌, ◌++◌, refl, rules}
-use Rattle.std.specs.Prelude.{⊤}
+use Rattle.std.proofs.Common.{◌≡◌, ℕ, List, [], ◌∷◌, ◌++◌, rules}
 use Rattle.cct_model.specs.terms.device.DeviceSetup.{DeviceSetup}
 use Rattle.cct_model.specs.terms.device.Setup.{Setup}
 use Rattle.cct_model.specs.lines.command.Step.{Step}
@@ -11,7 +10,6 @@ use Rattle.cct_model.specs.Transcript.{meets, own, scan_own, sale_own}
 use Rattle.cct_laws.specs.Balanced.{IsBalanced}
 use Rattle.cct_laws.specs.Ending.{nexts_after, HasNoEnd}
 use Rattle.cct_laws.specs.Faults.{EchoFailsByFault}
-use Rattle.cct_laws.specs.LifeCounts.{FitsLife}
 use Rattle.cct_laws.specs.SinceEpoch.{since_epoch, HasCauseAt}
 use Rattle.cct_laws.proofs.jobs.AwaitedRecords.{BeginsNone}
 use Rattle.cct_laws.proofs.jobs.StepBrings.{IsOfDesk, tells_stock, begins_change, keeps_change, serves_none, serves_later, serves_odd, serves_all, serves_short}
@@ -30,7 +28,6 @@ pub record IsApart (s : Step) (e : Entry) : Type 0 where
   pub no_end : (addr : ℕ) → HasNoEnd addr (e ∷ [])
   pub no_next : (addr nexts : ℕ) → nexts_after addr s nexts ≡ nexts
   pub balanced : (setup : Setup) (past : List Entry) → IsBalanced setup past e
-  pub fits_life : (past : List Entry) → FitsLife past e
 
 pub desk_apart : (s : Step) (e : Entry) → IsOfDesk s e → IsApart s e
 desk_apart _ _ (tells_stock addr count) = search rules

@@ -10,12 +10,10 @@ use Rattle.cct_model.specs.lines.command.Step.TheVariants as step
 use Rattle.cct_model.specs.lines.entry.End.{End}
 use Rattle.cct_model.specs.lines.entry.Entry.{Entry}
 use Rattle.cct_model.specs.lines.entry.Entry.TheVariants as entry
-use Rattle.cct_model.specs.History.{Met}
 use Rattle.cct_model.specs.Honest.{is_honest, forged_after}
 use Rattle.cct_model.specs.Legal.{with_end, Entries, LegalFrom}
-use Rattle.cct_model.specs.Line.{Line}
 use Rattle.cct_model.specs.Transcript.{met, pending}
-use Rattle.cct_laws.proofs.jobs.StepBrings.{IsOfDesk, tells_stock, begins_change, keeps_change, serves_none, serves_later, serves_odd, serves_all, serves_short, Comes, takes_coin, leaves_coin, takes_bill, leaves_bill, leaves_alien, drops_coin, drops_none, jams, jams_none, is_reset, AtDevice, came, took, halted, idled, made_exchange, made_put, wire_end, record_end, poll_end, Brought, of_device, faulted, refused, began_scan, began_sale, nobody, polled, sold, balanced, of_desk, ended_short, lost_power, lost_in_put, lost_in_sale, told_of, brought}
+use Rattle.cct_laws.proofs.jobs.StepBrings.{AtDevice, came, took, halted, idled, made_exchange, made_put, wire_end, record_end, poll_end, Brought, of_device, faulted, refused, began_scan, began_sale, nobody, polled, sold, balanced, of_desk, ended_short, lost_power, lost_in_put, lost_in_sale, told_of, brought, IsOfNoJob, came_of_no_job, desk_of_no_job}
 
 -- an entry is no exchange, and reports none that was forged
 abbrev pub TellsNoExchange : Entry → Type 0
@@ -37,23 +35,15 @@ plain_end : (addr : ℕ) (e : Entry) (end : Option End) → TellsNoExchange e �
 plain_end addr e None plain = (plain, tt)
 plain_end addr e (Some end) plain = (tt, (plain, tt))
 
-came_plain : (d : DeviceSetup) (past : List Met) (s : Step) (e : Entry) (m : Met) (ls : List Line) →
-    Comes d past s e m ls → TellsNoExchange e
-came_plain d past _ _ _ _ (takes_coin place accepting test) = tt
-came_plain d past _ _ _ _ (leaves_coin place accepting test) = tt
-came_plain d past _ _ _ _ (takes_bill place banking test) = tt
-came_plain d past _ _ _ _ (leaves_bill place banking test) = tt
-came_plain d past _ _ _ _ (leaves_alien accepting) = tt
-came_plain d past _ _ _ _ (drops_coin paying test) = tt
-came_plain d past _ _ _ _ (drops_none paying test) = tt
-came_plain d past _ _ _ _ (jams paying test) = tt
-came_plain d past _ _ _ _ (jams_none paying test) = tt
-came_plain d past _ _ _ _ is_reset = tt
+plain_of_no_job : (e : Entry) → IsOfNoJob e → TellsNoExchange e
+plain_of_no_job (entry.Wire addr sent piece) is = is
+plain_of_no_job (entry.Forged addr) is = is
+plain_of_no_job e is = tt
 
 makes_there : (capacity : ℕ) (setup : Setup) (d : DeviceSetup) (past news : List Entry) (s : Step) →
     AtDevice capacity setup d past s news → Makes s news
 makes_there capacity setup d past _ _ (came s e m ls comes) =
-    makes_none s (e ∷ []) (came_plain d (met d past) s e m ls comes, tt)
+    makes_none s (e ∷ []) (plain_of_no_job e (came_of_no_job d (met d past) s e m ls comes), tt)
 makes_there capacity setup d past _ _ (took s c gives suited here is_free is_taken is_owed lets) = makes_none _ _ (tt, tt)
 makes_there capacity setup d past _ _ (halted paying can) = makes_none _ _ (tt, tt)
 makes_there capacity setup d past _ _ (idled is_free) = makes_none _ _ (tt, tt)
@@ -61,16 +51,6 @@ makes_there capacity setup d past _ _ (made_exchange c since q at_work is_row) =
     makes_one d.addr d.addr _ _ (wire_end setup d past c since q)
 makes_there capacity setup d past _ _ (made_put c since r at_work is_row) =
     makes_none _ _ (plain_end d.addr (entry.Put r) (record_end d past c since r) tt)
-
-desk_plain : (s : Step) (e : Entry) → IsOfDesk s e → TellsNoExchange e
-desk_plain _ _ (tells_stock addr count) = tt
-desk_plain _ _ (begins_change first amount) = tt
-desk_plain _ _ (keeps_change first amount) = tt
-desk_plain _ _ serves_none = tt
-desk_plain _ _ (serves_later addr) = tt
-desk_plain _ _ (serves_odd id) = tt
-desk_plain _ _ (serves_all amount) = tt
-desk_plain _ _ (serves_short paid rest) = tt
 
 pub makes : (capacity : ℕ) (setup : Setup) (past news : List Entry) (s : Step) → Brought capacity setup past s news →
     Makes s news
@@ -84,7 +64,7 @@ makes capacity setup past _ _ (polled c since check addr none is_job is_row) =
     makes_one 0 0 _ _ (poll_end setup past since check addr)
 makes capacity setup past _ _ (sold id price since none selling) = makes_none _ _ (tt, (tt, tt))
 makes capacity setup past _ _ balanced = makes_none _ _ (tt, tt)
-makes capacity setup past _ _ (of_desk s e is) = makes_none _ _ (desk_plain s e is, tt)
+makes capacity setup past _ _ (of_desk s e is) = makes_none _ _ (plain_of_no_job e (desk_of_no_job s e is), tt)
 makes capacity setup past _ _ (ended_short addr id count why paid rest small range was) = makes_none _ _ (tt, (tt, tt))
 makes capacity setup past _ _ (lost_power at choice) = makes_none _ _ (tt, tt)
 makes capacity setup past _ _ (lost_in_put at choice d c since r own at_work is_row) = makes_none _ _ (tt, (tt, tt))

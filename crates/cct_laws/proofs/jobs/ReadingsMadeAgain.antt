@@ -75,7 +75,7 @@ met_one (Acceptor start values ids) place past accepting test =
 met_one (Hopper life value) place past accepting test = absurd accepting
 met_one (Bill start values ids) place past accepting test = absurd accepting
 
-no_bill : (body : DeviceBody) → IsAcceptor body → IsBill body → ⊥
+pub no_bill : (body : DeviceBody) → IsAcceptor body → IsBill body → ⊥
 no_bill (Acceptor accepts values ids) accepting banking = banking
 no_bill (Hopper life value) accepting banking = accepting
 no_bill (Bill accepts values ids) accepting banking = accepting

@@ -4,7 +4,6 @@
 use Rattle.std.proofs.Common.{◌≡◌, ◌<◌, inl, inr, ℕ, zero, suc, ◌==◌, cond, true, false, Bool, List, [], ◌∷◌, ◌++◌, refl, ap, sym, ◌∙◌, subst, Option, Some, None, MatchBool, eqb-true}
 use Rattle.std.specs.Prelude.{◌&&◌, ⊤, not}
 use Rattle.std.specs.List.{list_any}
-use Rattle.cct_model.specs.declared.judging.EpochState.TheVariants.{Idle}
 use Rattle.cct_model.specs.terms.wire.CheckKind.{CheckKind}
 use Rattle.cct_model.specs.terms.wire.TheConstants.{BROADCAST, HOST}
 use Rattle.cct_model.specs.terms.device.DeviceBody.{DeviceBody}
@@ -167,6 +166,41 @@ pub data IsOfDesk : Step → Entry → Type 0 where
   serves_odd : (id : ℕ) → IsOfDesk step.Serve (entry.ServeOdd id)
   serves_all : (amount : ℕ) → IsOfDesk step.Serve (entry.Served amount)
   serves_short : (paid rest : ℕ) → IsOfDesk step.Serve (entry.Short paid rest)
+
+-- an entry is of no job: it can be of what came to a device, or of the desk of the operator
+abbrev pub IsOfNoJob : Entry → Type 0
+IsOfNoJob (entry.Fault f) = ⊥
+IsOfNoJob (entry.Taken c) = ⊥
+IsOfNoJob (entry.No c why) = ⊥
+IsOfNoJob (entry.Wire addr sent piece) = ⊥
+IsOfNoJob (entry.Forged addr) = ⊥
+IsOfNoJob (entry.Put r) = ⊥
+IsOfNoJob (entry.Kept r) = ⊥
+IsOfNoJob (entry.Ended addr end) = ⊥
+IsOfNoJob e = ⊤
+
+pub came_of_no_job : (d : DeviceSetup) (past : List Met) (s : Step) (e : Entry) (m : Met) (ls : List Line) →
+    Comes d past s e m ls → IsOfNoJob e
+came_of_no_job d past _ _ _ _ (takes_coin place accepting is) = tt
+came_of_no_job d past _ _ _ _ (leaves_coin place accepting is) = tt
+came_of_no_job d past _ _ _ _ (takes_bill place banking is) = tt
+came_of_no_job d past _ _ _ _ (leaves_bill place banking is) = tt
+came_of_no_job d past _ _ _ _ (leaves_alien accepting) = tt
+came_of_no_job d past _ _ _ _ (drops_coin paying is) = tt
+came_of_no_job d past _ _ _ _ (drops_none paying is) = tt
+came_of_no_job d past _ _ _ _ (jams paying is) = tt
+came_of_no_job d past _ _ _ _ (jams_none paying is) = tt
+came_of_no_job d past _ _ _ _ is_reset = tt
+
+pub desk_of_no_job : (s : Step) (e : Entry) → IsOfDesk s e → IsOfNoJob e
+desk_of_no_job _ _ (tells_stock addr count) = tt
+desk_of_no_job _ _ (begins_change first amount) = tt
+desk_of_no_job _ _ (keeps_change first amount) = tt
+desk_of_no_job _ _ serves_none = tt
+desk_of_no_job _ _ (serves_later addr) = tt
+desk_of_no_job _ _ (serves_odd id) = tt
+desk_of_no_job _ _ (serves_all amount) = tt
+desk_of_no_job _ _ (serves_short paid rest) = tt
 
 -- what a step brought: something at a device of the setup; or a fault was set, a command was
 -- refused, a scan or a sale was begun or went on, nobody was there, the balance was read; or it

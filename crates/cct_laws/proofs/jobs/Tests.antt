@@ -16,7 +16,7 @@ abbrev pub Pass : (Test → Option CommandNo) → List Test → Type 0
 Pass fails [] = ⊤
 Pass fails (test ∷ tests) = (fails test ≡ None) × Pass fails tests
 
-both_pass : {A : Type 0} (first second : Option A) → option_or first second ≡ None → (first ≡ None) × (second ≡ None)
+pub both_pass : {A : Type 0} (first second : Option A) → option_or first second ≡ None → (first ≡ None) × (second ≡ None)
 both_pass None second is = (refl, is)
 both_pass (Some x) second is = absurd cc
 

@@ -170,6 +170,14 @@ held_sale_kept setup past n id price since sound selling =
     one_sold : (few many here : ℕ) → few ≤ many → here ≡ 1 → suc (few + 0) ≤ many + here
     one_sold few many here le one = omega (arith, le, one)
 
+-- a sale that is put has spent what it reserved, and the record that it held
+pub sold_spends : (price spoken spoken_later now posted : ℕ) → spoken_later ≡ spoken + price → now ≡ price →
+    spoken_later + 0 + posted ≤ spoken + now + 0 + (0 + posted)
+sold_spends price spoken spoken_later now posted more same = omega (arith, more, same)
+
+pub sold_holds : (many now : ℕ) → now ≡ 1 → suc many + 0 ≤ many + now + 0
+sold_holds many now one = omega (arith, one)
+
 -- each step keeps the sums
 counts_step : (capacity : ℕ) (setup : Setup) (past news : List Entry) (s : Step) → IsSoundSetup setup →
     Ids setup past → Brought capacity setup past s news → Books capacity setup past →
@@ -222,19 +230,12 @@ counts_step capacity setup past _ _ sound ids (sold id price since none selling)
           same_end e past HOST (entry.Put r) (Some Sold) other (same_put e past r other);
       follow = and_from _ _ (due_follows capacity setup past r ids books (from_sale id price since none selling))
           books.counts.follow;
-      spends = sold_spends (spoken_in setup (records past)) (spoken_in setup (r ∷ records past))
+      spends = sold_spends price (spoken_in setup (records past)) (spoken_in setup (r ∷ records past))
           (reserved_by_sale setup (job (sale_lines past))) (posted_in setup (records past))
           (sold_spoken setup (records past) id price)
           reserves;
       holds = sold_holds (length (records past)) (sale_holds (job (sale_lines past))) one;
     })
-  where
-    sold_spends : (spoken spoken_later now posted : ℕ) → spoken_later ≡ spoken + price → now ≡ price →
-        spoken_later + 0 + posted ≤ spoken + now + 0 + (0 + posted)
-    sold_spends spoken spoken_later now posted more same = omega (arith, more, same)
-
-    sold_holds : (many now : ℕ) → now ≡ 1 → suc many + 0 ≤ many + now + 0
-    sold_holds many now one = omega (arith, one)
 counts_step capacity setup past _ _ sound ids balanced books =
     counts_same capacity setup past (entry.Balance (totals setup past) ∷ past) sound (λ e own. same_lines _ _ refl) refl
     refl books.counts

@@ -119,6 +119,10 @@ same_held setup past later sound same =
     (λ e own. holds_same e (lines_of e later) (lines_of e past) (same e own).jobs (same e own).epochs
     (same e own).orders))
 
+pub same_apart : (few few_later here here_later : ℕ) → few_later ≡ few →
+    (few_later + here_later) + here ≤ (few + here) + here_later
+same_apart few few_later here here_later same = omega (arith, same)
+
 pub counts_sold : (capacity : ℕ) (setup : Setup) (past later : List Entry) (spent need : ℕ) → IsSoundSetup setup →
     spoken_for setup past + spent ≤ posted_in setup (records past) →
     length (records past) + held setup past + need ≤ capacity → Sells setup past later spent need →
@@ -140,10 +144,16 @@ counts_sold capacity setup past later spent need sound covered full s = record {
       (same_apart _ _ (sale_holds (job (sale_lines past))) (sale_holds (job (sale_lines later)))
       (same_held setup past later sound s.devices)) s.holds full;
 }
-  where
-    same_apart : (few few_later here here_later : ℕ) → few_later ≡ few →
-        (few_later + here_later) + here ≤ (few + here) + here_later
-    same_apart few few_later here here_later same = omega (arith, same)
+
+pub unspent : (spoken spoken_later here here_later posted posted_later : ℕ) → spoken_later ≡ spoken →
+    here_later ≡ here → posted_later ≡ posted →
+    spoken_later + here_later + posted ≤ spoken + here + 0 + posted_later
+unspent spoken spoken_later here here_later posted posted_later first second third =
+    omega (arith, first, second, third)
+
+pub unheld : (many many_later here here_later : ℕ) → many_later ≡ many → here_later ≡ here →
+    many_later + here_later ≤ many + here + 0
+unheld many many_later here here_later first second = omega (arith, first, second)
 
 -- nothing changed but that there are entries more
 pub counts_same : (capacity : ℕ) (setup : Setup) (past later : List Entry) → IsSoundSetup setup →
@@ -167,16 +177,6 @@ counts_same capacity setup past later sound same sale same_records counts =
   where
     nothing_more : (few many : ℕ) → few ≤ many → few + 0 ≤ many
     nothing_more few many le = omega (arith, le)
-
-    unspent : (spoken spoken_later here here_later posted posted_later : ℕ) → spoken_later ≡ spoken →
-        here_later ≡ here → posted_later ≡ posted →
-        spoken_later + here_later + posted ≤ spoken + here + 0 + posted_later
-    unspent spoken spoken_later here here_later posted posted_later first second third =
-        omega (arith, first, second, third)
-
-    unheld : (many many_later here here_later : ℕ) → many_later ≡ many → here_later ≡ here →
-        many_later + here_later ≤ many + here + 0
-    unheld many many_later here here_later first second = omega (arith, first, second)
 
 -- where no job runs, what is covered is what the records show
 pub counts_lost : (capacity : ℕ) (setup : Setup) (later : List Entry) → IsSoundSetup setup → HasNoJob later →

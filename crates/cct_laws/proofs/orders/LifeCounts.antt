@@ -19,7 +19,6 @@ use Rattle.cct_model.specs.lines.entry.End.{End}
 use Rattle.cct_model.specs.lines.entry.End.TheVariants.{NoAnswer, OddLife}
 use Rattle.cct_model.specs.lines.entry.Entry.{Entry}
 use Rattle.cct_model.specs.lines.entry.Entry.TheVariants as entry
-use Rattle.cct_model.specs.History.{Met}
 use Rattle.cct_model.specs.Reply.{Reply}
 use Rattle.cct_model.specs.Device.{IsHopper}
 use Rattle.cct_model.specs.Setup.{IsSoundSetup}
@@ -37,8 +36,7 @@ use Rattle.cct_laws.specs.DeviceJobs.{is_for_taker, suits}
 use Rattle.cct_laws.specs.Law.{IsOf, EachEntry}
 use Rattle.cct_laws.specs.LifeCounts.{HasFittingLife, FitsLife}
 use Rattle.cct_laws.specs.Scope.{EachTranscript}
-use Rattle.cct_laws.proofs.jobs.AtDesk.{desk_apart}
-use Rattle.cct_laws.proofs.jobs.StepBrings.{Comes, takes_coin, leaves_coin, takes_bill, leaves_bill, leaves_alien, drops_coin, drops_none, jams, jams_none, is_reset, AtDevice, came, took, halted, idled, made_exchange, made_put, AtWork, Brought, of_device, faulted, refused, began_scan, began_sale, nobody, polled, sold, balanced, of_desk, ended_short, lost_power, lost_in_put, lost_in_sale, row_after, wire_of, wire_end, record_end, poll_wire, poll_end}
+use Rattle.cct_laws.proofs.jobs.StepBrings.{AtDevice, came, took, halted, idled, made_exchange, made_put, AtWork, Brought, of_device, faulted, refused, began_scan, began_sale, nobody, polled, sold, balanced, of_desk, ended_short, lost_power, lost_in_put, lost_in_sale, row_after, wire_of, wire_end, record_end, poll_wire, poll_end, IsOfNoJob, came_of_no_job, desk_of_no_job}
 use Rattle.cct_laws.proofs.steps.EitherKind.{both_hopper, for_taker}
 use Rattle.cct_laws.proofs.steps.EachKeeps.{IsRanged, ranged_step, kept_step}
 use Rattle.cct_laws.proofs.orders.Paying.{pays_kept, never_odd}
@@ -194,25 +192,18 @@ device_fit setup past d c since r own all honest at_work is_row =
     row_fit setup past d c since r d.body refl (subst (IsRanged d) at_work.job_is (all.ranged d own)).1
     ((all.holds honest).0 d own) at_work is_row
 
--- something at a device
-came_fit : (past : List Entry) (s : Step) (e : Entry) (d : DeviceSetup) (before : List Met) (m : Met) (ls : List Line) →
-    Comes d before s e m ls → FitsLife past e
-came_fit past _ _ d before _ _ (takes_coin place accepting test) = tt
-came_fit past _ _ d before _ _ (leaves_coin place accepting test) = tt
-came_fit past _ _ d before _ _ (takes_bill place banking test) = tt
-came_fit past _ _ d before _ _ (leaves_bill place banking test) = tt
-came_fit past _ _ d before _ _ (leaves_alien accepting) = tt
-came_fit past _ _ d before _ _ (drops_coin paying test) = tt
-came_fit past _ _ d before _ _ (drops_none paying test) = tt
-came_fit past _ _ d before _ _ (jams paying test) = tt
-came_fit past _ _ d before _ _ (jams_none paying test) = tt
-came_fit past _ _ d before _ _ is_reset = tt
+-- what is of no job
+fit_of_no_job : (past : List Entry) (e : Entry) → IsOfNoJob e → FitsLife past e
+fit_of_no_job past (entry.Put r) is = absurd is
+fit_of_no_job past (entry.Kept r) is = absurd is
+fit_of_no_job past (entry.Ended addr end) is = absurd is
+fit_of_no_job past e is = tt
 
 there_fit : (capacity : ℕ) (setup : Setup) (d : DeviceSetup) (past news : List Entry) (s : Step) → IsOf setup d →
     AllFit setup past → HonestPast past → AtDevice capacity setup d past s news → EachEntry FitsLife past →
     EachEntry FitsLife (news ++ past)
 there_fit capacity setup d past _ _ own all honest (came s e m ls comes) before =
-    (came_fit past s e d (met d past) m ls comes, before)
+    (fit_of_no_job past e (came_of_no_job d (met d past) s e m ls comes), before)
 there_fit capacity setup d past _ _ own all honest (took s c gives suited here is_free is_taken is_owed lets) before = (tt, before)
 there_fit capacity setup d past _ _ own all honest (halted paying can) before = (tt, before)
 there_fit capacity setup d past _ _ own all honest (idled is_free) before = (tt, before)
@@ -236,7 +227,7 @@ life_fit capacity setup past _ _ all honest (polled c since check addr none is_j
     entries_fit past 0 (poll_wire setup past check addr) (poll_end setup past since check addr) tt (scan_fit _) before
 life_fit capacity setup past _ _ all honest (sold id price since none selling) before = (tt, (tt, before))
 life_fit capacity setup past _ _ all honest balanced before = (tt, before)
-life_fit capacity setup past _ _ all honest (of_desk s e is) before = ((desk_apart s e is).fits_life past, before)
+life_fit capacity setup past _ _ all honest (of_desk s e is) before = (fit_of_no_job past e (desk_of_no_job s e is), before)
 life_fit capacity setup past _ _ all honest (ended_short addr id count why paid rest small range was) before =
     (tt, (tt, before))
 life_fit capacity setup past _ _ all honest (lost_power at choice) before = (tt, before)

@@ -69,7 +69,7 @@ abbrev pub IsMany : Option Request → Type 0
 IsMany None = ⊤
 IsMany (Some q) = IsAgain q
 
-zero_or : (b : Bool) (n : ℕ) → cond b 0 n ≤ n
+pub zero_or : (b : Bool) (n : ℕ) → cond b 0 n ≤ n
 zero_or true n = omega arith
 zero_or false n = le_refl n
 

@@ -1,9 +1,9 @@
 -- What is legal at the desk of the operator is legal: whatever is known there shows one of the ways
 -- in which a `change` and a `serve` may go.
-use Rattle.std.proofs.Common.{◌≡◌, ◌≢◌, ◌⊎◌, inl, inr, ℕ, zero, suc, ◌<◌, ◌≤◌, ◌==◌, ◌^◌, Bool, true, false, cond, List, [], ◌∷◌, ◌++◌, reverse, flat_map, refl, sym, ap, subst, ◌∙◌, Option, Some, None, All, arith}
-use Rattle.std.specs.Prelude.{MatchBool, min, ⊤}
+use Rattle.std.proofs.Common.{◌≡◌, inl, inr, ℕ, ◌<◌, ◌≤◌, ◌==◌, Bool, true, false, cond, List, [], ◌∷◌, ◌++◌, reverse, refl, sym, ap, subst, Option, Some, None, All, arith}
+use Rattle.std.specs.Prelude.{MatchBool}
 use Rattle.std.proofs.lemmas.Bool.Decides.{nat_tests}
-use Rattle.std.proofs.lemmas.List.Elements.{All-append, All-cons, All-head, All-nil, All-tail, All-weaker}
+use Rattle.std.proofs.lemmas.List.Elements.{All-append, All-cons, All-head, All-nil, All-tail}
 use Rattle.std.proofs.lemmas.List.Sorted.{All-permutation}
 use Rattle.cct_model.specs.terms.device.DeviceBody.{DeviceBody}
 use Rattle.cct_model.specs.terms.device.DeviceBody.TheVariants.{Acceptor, Bill, Hopper}
@@ -18,14 +18,14 @@ use Rattle.cct_model.specs.lines.entry.Entry.TheVariants as entry
 use Rattle.cct_model.specs.declared.change.Due.{Due}
 use Rattle.cct_model.specs.declared.change.Payment.{Payment}
 use Rattle.cct_model.specs.declared.change.Phase.{Phase}
-use Rattle.cct_model.specs.declared.change.Phase.TheVariants.{Begun, Opened, Closed, Odd, Lost}
+use Rattle.cct_model.specs.declared.change.Phase.TheVariants.{Begun, Opened, Odd}
 use Rattle.cct_model.specs.declared.change.Session.{Session}
 use Rattle.cct_model.specs.declared.change.Tray.{Tray}
 use Rattle.cct_model.specs.Device.{IsSound}
 use Rattle.cct_model.specs.Exchange.{by_address}
-use Rattle.cct_model.specs.Plan.{most_of, AreWithin}
+use Rattle.cct_model.specs.Plan.{AreWithin}
 use Rattle.std.specs.Option.{option_map}
-use Rattle.cct_model.specs.Change.{session_after, Desk, GoesOn, PaysNext, PaysOn, Serves, ServesDue, Settles, change_entry, changed, clear_desk, desk_after, first_pay, gone_on, pay_entries, restocked, served, served_by, served_due, settled, settled_trays, short_entry, stock_left, tray_of, trays_of}
+use Rattle.cct_model.specs.Change.{session_after, Desk, GoesOn, PaysOn, Serves, ServesDue, Settles, change_entry, changed, clear_desk, desk_after, first_pay, gone_on, pay_entries, restocked, served, served_by, served_due, settled, settled_trays, stock_left, tray_of, trays_of}
 use Rattle.cct_model.specs.Legal.{ChangeEntries, Entries, Legal, LegalFrom, ServeEntries, is_idle, waits, is_odd, is_served, falls_short, pays, is_refused}
 use Rattle.cct_model.specs.AtDesk.{AtDeskFrom, EntriesAtDesk, LeavesDesk, LegalAtDesk}
 use Rattle.cct_model.specs.Refusal.{refusal}

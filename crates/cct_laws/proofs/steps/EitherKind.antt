@@ -1,7 +1,8 @@
 -- What is kept by all that comes to a device that takes money, or to a hopper, is kept by all that comes to a device of
 -- any kind.
-use Rattle.std.proofs.Common.{◌≡◌, ◌⊎◌, inl, inr, true, false, Bool, List, refl, ap, ◌∙◌}
+use Rattle.std.proofs.Common.{◌≡◌, ◌⊎◌, inl, inr, true, List, ap, ◌∙◌}
 use Rattle.std.specs.Prelude.{◌||◌}
+use Rattle.std.proofs.Math.Bool.{or-true}
 use Rattle.cct_model.specs.terms.device.DeviceBody.{DeviceBody}
 use Rattle.cct_model.specs.terms.device.DeviceBody.TheVariants.{Acceptor, Bill, Hopper}
 use Rattle.cct_model.specs.terms.device.DeviceSetup.{DeviceSetup}
@@ -35,14 +36,10 @@ kind_of (Acceptor accepts values ids) = inl tt
 kind_of (Hopper life value) = inr tt
 kind_of (Bill accepts values ids) = inl tt
 
-or_true : (b : Bool) → (b || true) ≡ true
-or_true true = refl
-or_true false = refl
-
 pub for_taker : (body : DeviceBody) (c : Command) → IsTaker body → suits body c ≡ true → is_for_taker c ≡ true
 for_taker (Acceptor accepts values ids) c taking suited = ap (λ b. b || is_for_bills c) suited
 for_taker (Hopper life value) c taking suited = absurd taking
-for_taker (Bill accepts values ids) c taking suited = ap (λ b. is_for_acceptor c || b) suited ∙ or_true (is_for_acceptor c)
+for_taker (Bill accepts values ids) c taking suited = ap (λ b. is_for_acceptor c || b) suited ∙ or-true (is_for_acceptor c)
 
 pub for_hopper : (body : DeviceBody) (c : Command) → IsHopper body → suits body c ≡ true → is_for_hopper c ≡ true
 for_hopper (Acceptor accepts values ids) c paying suited = absurd paying

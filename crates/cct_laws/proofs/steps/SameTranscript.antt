@@ -18,7 +18,7 @@ use Rattle.cct_model.specs.lines.entry.Entry.TheVariants as entry
 use Rattle.cct_model.specs.declared.change.Due.{Due}
 use Rattle.cct_model.specs.declared.change.Payment.{Payment}
 use Rattle.cct_model.specs.declared.change.Phase.{Phase}
-use Rattle.cct_model.specs.declared.change.Phase.TheVariants.{Begun, Opened, Closed, Odd, Lost}
+use Rattle.cct_model.specs.declared.change.Phase.TheVariants.{Begun, Opened, Odd}
 use Rattle.cct_model.specs.declared.change.Session.{Session}
 use Rattle.cct_model.specs.declared.change.Tray.{Tray}
 use Rattle.cct_model.specs.AtDesk.{AtDeskFrom, EntriesAtDesk, LegalAtDesk}

@@ -24,13 +24,13 @@ passed true x m found = cc
 passed false x m found = absurd cc
 
 -- the address and the header of a message stand at these places of its bytes
-abbrev Placed : List ℕ → Message → Type 0
+abbrev pub Placed : List ℕ → Message → Type 0
 Placed piece m = (m.to ≡ slice_index piece 0) × (m.header ≡ slice_index piece 3)
 
 placed_of : (piece : List ℕ) (x m : Message) → Placed piece x → x ≡ m → Placed piece m
 placed_of piece x m placed is = (ap (λ n. n.to) (sym is) ∙ placed.0, ap (λ n. n.header) (sym is) ∙ placed.1)
 
-message_placed : (kind : CheckKind) (piece : List ℕ) (m : Message) → message kind piece ≡ Some m → Placed piece m
+pub message_placed : (kind : CheckKind) (piece : List ℕ) (m : Message) → message kind piece ≡ Some m → Placed piece m
 unfolding message
 message_placed Simple [] m found = absurd cc
 message_placed Simple (a ∷ []) m found = absurd cc

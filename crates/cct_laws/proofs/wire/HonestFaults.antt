@@ -1,6 +1,7 @@
 -- The test of an honest fault holds exactly where its damage is honest.
 use Rattle.std.proofs.Common.{◌≡◌, ℕ, ◌&&◌, ◌||◌, Bool, true, false, List, ◌++◌, refl, sym, ap, ap₂, ◌∙◌, inl, inr, Option, None, Some, true≢false}
 use Rattle.std.specs.Prelude.{bytes_eq, is_none}
+use Rattle.std.proofs.Math.Bool.{or-true}
 use Rattle.std.proofs.lemmas.Bool.{and_parts, or_cases}
 use Rattle.std.proofs.lemmas.Slice.Eq.{bytes_eq-Decides}
 use Rattle.cct_model.specs.terms.wire.CheckKind.TheVariants.{Simple, Crc}
@@ -34,16 +35,12 @@ poll_known sent test =
       | inr same ↦ (Crc, (bytes_eq-Decides sent (ask Crc 0 AddressPoll)).0 same)
     ]
 
-or_true : (b : Bool) → (b || true) ≡ true
-or_true true = refl
-or_true false = refl
-
 poll_tested : (sent : List ℕ) → IsAddressPoll sent → is_address_poll sent ≡ true
 poll_tested sent (Simple, is) =
     ap (λ b. b || bytes_eq sent (ask Crc 0 AddressPoll)) ((bytes_eq-Decides sent (ask Simple 0 AddressPoll)).1 is)
 poll_tested sent (Crc, is) =
     ap (λ b. bytes_eq sent (ask Simple 0 AddressPoll) || b) ((bytes_eq-Decides sent (ask Crc 0 AddressPoll)).1 is)
-    ∙ or_true (bytes_eq sent (ask Simple 0 AddressPoll))
+    ∙ or-true (bytes_eq sent (ask Simple 0 AddressPoll))
 
 -- a fact that is asked where no address poll is sent
 unless_poll : (sent : List ℕ) (b : Bool) → (is_address_poll sent || b) ≡ true → (IsAddressPoll sent → ⊥) → b ≡ true
