@@ -19,11 +19,10 @@ use Rattle.cct_model.specs.Records.{records}
 use Rattle.cct_model.specs.Rows.{Then, goes_on, ends_as, if_quiet, if_judged, if_unmoved, path_told, if_posted, if_closed, new_epoch, reading, epoch_end, new_order, order_end, sale, TableRow, asks_for, asks_once, waits_for_coins, puts_due, rows_of, rest, done, end_by_record, end_kept}
 use Rattle.cct_model.specs.Transcript.{got_by, heard_after, lines_of, met, owner}
 use Rattle.cct_model.proofs.Rows.{AnswerEnds, BareEnds, EachRow, IfEnd, each_after, each_told, exchange_end}
-use Rattle.cct_laws.specs.Ending.{HasNoEnd, IsEndOf, ShowsEnd}
+use Rattle.cct_laws.specs.Ending.{IsEndOf, ShowsEnd}
 use Rattle.cct_laws.specs.Ids.{Ids}
 use Rattle.cct_laws.specs.Law.{IsOf}
-use Rattle.cct_laws.proofs.jobs.StepBrings.{AtDevice, came, took, halted, idled, made_exchange, made_put, wire_of, wire_end, record_end, poll_wire, poll_end, IsOfDesk, tells_stock, begins_change, keeps_change, serves_none, serves_later, serves_odd, serves_all, serves_short, Brought, of_device, faulted, refused, began_scan, began_sale, nobody, polled, sold, balanced, of_desk, ended_short, lost_power, lost_in_put, lost_in_sale}
-use Rattle.cct_laws.proofs.jobs.SeenAtOne.{loose}
+use Rattle.cct_laws.proofs.jobs.StepBrings.{AtDevice, came, took, halted, idled, made_exchange, made_put, wire_of, wire_end, record_end, poll_wire, poll_end, Brought, of_device, faulted, refused, began_scan, began_sale, nobody, polled, sold, balanced, of_desk, ended_short, lost_power, lost_in_put, lost_in_sale, IsOfNoJob, came_of_no_job, desk_of_no_job}
 use Rattle.cct_laws.proofs.jobs.EntriesOfStep.{Telling, over_telling}
 use Rattle.cct_laws.proofs.orders.Ids.{put_owned}
 
@@ -107,13 +106,6 @@ pay_closes addr id count Closed is none = none
 pay_closes addr id count OddLife is none = none
 pay_closes addr id count end is none = is
 
--- entries show no end that has none
-shows_none : (c : Command) (addr : ℕ) (news : List Entry) → HasNoEnd addr news → ShowsEnd c addr news → ⊥
-shows_none c addr [] none shows = shows
-shows_none c addr (entry.Ended other end ∷ news) none (inl here) = none.0 here.0
-shows_none c addr (entry.Ended other end ∷ news) none (inr later) = shows_none c addr news none.1 later
-shows_none c addr (e ∷ news) none shows = shows_none c addr news none shows
-
 -- the record that a step puts where it shows the end of a payment at an address
 pub record Closes (past : List Entry) (addr : ℕ) (news : List Entry) : Type 0 where
   pub closing : Record
@@ -124,6 +116,11 @@ pub record Closes (past : List Entry) (addr : ℕ) (news : List Entry) : Type 0 
 module _ (setup : Setup) (past : List Entry) (addr id count : ℕ) where
   Shows : List Entry → Type 0
   Shows news = ShowsEnd (command.Pay addr id count) addr news
+
+  closes_of_no_job : (e : Entry) → IsOfNoJob e → Shows (e ∷ []) → ⊥
+  unfolding Shows
+  closes_of_no_job (entry.Ended at end) is shows = is
+  closes_of_no_job e is shows = shows
 
   wire_closes : (at : ℕ) (e : Entry) (end : Option End) → IfEnd IsNoClose end → (Shows (e ∷ []) → ⊥) →
       Shows (with_end at e end) → ⊥
@@ -145,7 +142,7 @@ module _ (setup : Setup) (past : List Entry) (addr id count : ℕ) where
       AtDevice capacity setup d past s news → Shows news → Closes past addr news
   unfolding Shows
   there_closes capacity d _ _ own ids (came s e m ls comes) shows =
-      absurd (shows_none (command.Pay addr id count) addr (e ∷ []) ((loose d (met d past) s e m ls comes).no_end addr) shows)
+      absurd (closes_of_no_job e (came_of_no_job d (met d past) s e m ls comes) shows)
   there_closes capacity d _ _ own ids (took s c gives suited here is_free is_taken is_owed lets) shows = absurd shows
   there_closes capacity d _ _ own ids (halted paying can) shows = absurd shows
   there_closes capacity d _ _ own ids (idled is_free) shows = absurd shows
@@ -158,17 +155,6 @@ module _ (setup : Setup) (past : List Entry) (addr id count : ℕ) where
       put_closes d.addr r (record_end d past c since r)
       (kept_closes (rest d c since) r (each_after PlainPut (rows_of d c) (done (rows_of d c) since) (puts_plain d c)))
       (put_owned setup past d c since r own ids at_work is_row) shows
-
-  desk_closes : (s : Step) (e : Entry) → IsOfDesk s e → Shows (e ∷ []) → ⊥
-  unfolding Shows
-  desk_closes _ _ (tells_stock at amount) shows = shows
-  desk_closes _ _ (begins_change first amount) shows = shows
-  desk_closes _ _ (keeps_change first amount) shows = shows
-  desk_closes _ _ serves_none shows = shows
-  desk_closes _ _ (serves_later at) shows = shows
-  desk_closes _ _ (serves_odd at) shows = shows
-  desk_closes _ _ (serves_all amount) shows = shows
-  desk_closes _ _ (serves_short paid left) shows = shows
 
   poll_closes : (e : Entry) (end : Option End) → 1 ≤ addr → (Shows (e ∷ []) → ⊥) → Shows (with_end 0 e end) → ⊥
   unfolding Shows
@@ -191,7 +177,7 @@ module _ (setup : Setup) (past : List Entry) (addr id count : ℕ) where
   brought_closes capacity _ _ some ids (sold used price since empty selling) (inl here) = absurd here.1
   brought_closes capacity _ _ some ids (sold used price since empty selling) (inr later) = absurd later
   brought_closes capacity _ _ some ids balanced shows = absurd shows
-  brought_closes capacity _ _ some ids (of_desk s e is) shows = absurd (desk_closes s e is shows)
+  brought_closes capacity _ _ some ids (of_desk s e is) shows = absurd (closes_of_no_job e (desk_of_no_job s e is) shows)
   brought_closes capacity _ _ some ids (ended_short at used many why paid left small range was) shows = absurd shows
   brought_closes capacity _ _ some ids (lost_power at choice) shows = absurd shows
   brought_closes capacity _ _ some ids (lost_in_put at choice d c since r own at_work is_row) shows = absurd shows

@@ -162,16 +162,6 @@ counted (put (record_of.Closed id closed unpaid) ∷ past) paid fresh =
     let found = of_order (order past) (λ o. (id ≡ o.id) × (closed ≡ fallen past) × (closed + unpaid ≡ o.count)) paid.0 in
     closed_counted past found.0 id closed unpaid found.1 found.2.0 found.2.1 (counted past paid.1 fresh.1)
 counted (put (record_of.Odd id before after) ∷ past) paid fresh = absurd paid.0
-counted (put r ∷ past) paid fresh =
-    let before = counted past paid.1 fresh.1 in
-    record {
-      open_is = before.open_is;
-      unopened = before.unopened;
-      within = before.within;
-      closed_is = before.closed_is;
-      closed_apart = before.closed_apart;
-      ended = before.ended;
-    }
 counted (l ∷ past) paid fresh =
     let before = counted past paid.1 fresh.1 in
     record {

@@ -1,7 +1,6 @@
 -- What a step adds to what is spoken for and to the records and those that are held: no more than the commands that it takes
 -- spend and want room for. So what is available sinks by no more.
-use Rattle.std.proofs.Common.{◌≡◌, ◌≢◌, ℕ, suc, ◌+◌, ◌-◌, ◌≤◌, cond, List, [], ◌∷◌, ◌++◌, length, refl, ap, sym, ◌∙◌, subst, Option, Some, None, inl, inr, arith, le_of_eq}
-use Rattle.std.proofs.lemmas.Bool.{ne_eqb}
+use Rattle.std.proofs.Common.{◌≡◌, ◌≢◌, ℕ, suc, ◌+◌, ◌-◌, ◌≤◌, List, [], ◌∷◌, ◌++◌, length, refl, ap, sym, ◌∙◌, subst, Option, Some, None, inl, inr, arith, le_of_eq}
 use Rattle.cct_model.specs.terms.wire.TheConstants.{BROADCAST, HOST}
 use Rattle.cct_model.specs.terms.device.DeviceSetup.{DeviceSetup}
 use Rattle.cct_model.specs.terms.device.Setup.{Setup}
@@ -15,13 +14,12 @@ use Rattle.cct_model.specs.lines.entry.End.TheVariants.{Sold}
 use Rattle.cct_model.specs.lines.entry.Entry.{Entry}
 use Rattle.cct_model.specs.lines.entry.Entry.TheVariants as entry
 use Rattle.cct_model.specs.Exchange.{device_at}
-use Rattle.cct_model.specs.History.{Met}
 use Rattle.cct_model.specs.Setup.{IsSoundSetup}
-use Rattle.cct_model.specs.Line.{Line, put, restarted}
+use Rattle.cct_model.specs.Line.{Line}
 use Rattle.cct_model.specs.Job.{address_of, job, puts}
 use Rattle.cct_model.specs.Records.{records}
 use Rattle.cct_model.specs.Money.{available, posted_in, reserved_at_work, reserved_by, reserved_by_sale, spoken_for, sum_over, totals}
-use Rattle.cct_model.specs.Refusal.{held, holds_at, holds_of, need_for, sale_holds}
+use Rattle.cct_model.specs.Refusal.{held, holds_of, need_for, sale_holds}
 use Rattle.cct_model.specs.Legal.{keeping_restart, with_end}
 use Rattle.cct_model.specs.Transcript.{lines_of, met, sale_lines}
 use Rattle.cct_laws.specs.Ids.{Ids}
@@ -30,19 +28,18 @@ use Rattle.cct_laws.specs.Recorded.{HasNoJob}
 use Rattle.cct_laws.proofs.steps.EachKeeps.{works_at}
 use Rattle.cct_laws.proofs.setups.DeviceAt.{same_or_other}
 use Rattle.cct_laws.proofs.jobs.AtDesk.{desk_apart}
-use Rattle.cct_laws.proofs.jobs.StepBrings.{AtDevice, AtWork, Brought, Comes, IsOfDesk, begins_change, drops_coin, drops_none, is_reset, jams, jams_none, keeps_change, leaves_alien, leaves_bill, leaves_coin, row_after, serves_all, serves_later, serves_none, serves_odd, serves_short, takes_bill, takes_coin, tells_stock, balanced, began_sale, began_scan, came, ended_short, faulted, halted, idled, lost_in_put, lost_in_sale, lost_power, made_exchange, made_put, nobody, of_desk, of_device, poll_end, poll_wire, polled, record_end, refused, sold, took, wire_end, wire_of, from_job, Selling}
+use Rattle.cct_laws.proofs.jobs.StepBrings.{AtDevice, AtWork, Brought, row_after, balanced, began_sale, began_scan, came, ended_short, faulted, halted, idled, lost_in_put, lost_in_sale, lost_power, made_exchange, made_put, nobody, of_desk, of_device, poll_end, poll_wire, polled, record_end, refused, sold, took, wire_end, wire_of, from_job, IsOfNoJob, came_of_no_job, desk_of_no_job}
 use Rattle.cct_laws.proofs.jobs.SeenAtOne.{not_zero}
 use Rattle.cct_laws.proofs.jobs.LeftAlone.{AreSame, came_quiet, off_host, records_end, same_came, same_elsewhere, same_end, same_lines, same_put, same_taken, same_wire}
-use Rattle.cct_laws.proofs.money.RecordsHeldByAll.{held_kept, held_moved, held_restarted, holds_restarted, holds_same}
-use Rattle.cct_laws.proofs.money.Books.{Books, due_follows, held_sale_kept, selling_holds}
-use Rattle.cct_laws.proofs.money.Counting.{Moves, same_at_work, same_held}
+use Rattle.cct_laws.proofs.money.RecordsHeldByAll.{held_kept, held_moved, held_restarted, holds_same}
+use Rattle.cct_laws.proofs.money.Books.{Books, due_follows, held_sale_kept, selling_holds, sold_spends, sold_holds}
+use Rattle.cct_laws.proofs.money.Counting.{Moves, same_at_work, same_held, same_apart, unspent, unheld}
 use Rattle.cct_laws.proofs.money.Covered.{sold_spoken, spoken_in}
 use Rattle.cct_laws.proofs.money.JobsCanPut.{scan_unsold}
 use Rattle.cct_laws.proofs.money.NoLongerReserved.{sale_reserves}
 use Rattle.cct_laws.proofs.money.FromRecordsAlone.{nothing_at_work, restart_frees}
 use Rattle.cct_laws.proofs.money.Reserved.{at_work_moved, spent_by, spoken_both}
 use Rattle.cct_laws.proofs.money.BooksChange.{moves_asked, moves_halted, moves_put, moves_taken}
-use Rattle.cct_laws.proofs.money.Sums.{all_found, sum_grows_each, sum_same_each}
 use Rattle.cct_laws.proofs.orders.Ids.{put_owned}
 use Rattle.cct_laws_change.specs.Course.{commands_in, needs_in}
 
@@ -126,10 +123,6 @@ grows_sold setup past later spent need sound s = record {
       (same_apart _ _ (sale_holds (job (sale_lines past))) (sale_holds (job (sale_lines later)))
       (same_held setup past later sound s.devices)) s.holds;
 }
-  where
-    same_apart : (few few_later here here_later : ℕ) → few_later ≡ few →
-        (few_later + here_later) + here ≤ (few + here) + here_later
-    same_apart few few_later here here_later same = omega (arith, same)
 
 -- where nothing changed but that there are entries more
 grows_same : (setup : Setup) (past later : List Entry) → IsSoundSetup setup →
@@ -147,16 +140,6 @@ grows_same setup past later sound same sale same_records =
           unheld (length (records past)) (length (records later)) (sale_holds (job (sale_lines past)))
           (sale_holds (job (sale_lines later))) (ap length same_records) (ap sale_holds sale);
     })
-  where
-    unspent : (spoken spoken_later here here_later posted posted_later : ℕ) → spoken_later ≡ spoken →
-        here_later ≡ here → posted_later ≡ posted →
-        spoken_later + here_later + posted ≤ spoken + here + 0 + posted_later
-    unspent spoken spoken_later here here_later posted posted_later first second third =
-        omega (arith, first, second, third)
-
-    unheld : (many many_later here here_later : ℕ) → many_later ≡ many → here_later ≡ here →
-        many_later + here_later ≤ many + here + 0
-    unheld many many_later here here_later first second = omega (arith, first, second)
 
 -- where the power was cut: the records alone speak for anything
 grows_lost : (setup : Setup) (past later : List Entry) → HasNoJob later →
@@ -196,29 +179,10 @@ none_in : (setup : Setup) (past : List Entry) (e : Entry) → commands_in (e ∷
 none_in setup past e none is =
     subst (λ cs. Grows setup past (e ∷ past) (spent_in setup cs) (needs_in setup cs)) (sym none) is
 
--- what came to a device by itself is no command
-came_none : (d : DeviceSetup) (past : List Met) (s : Step) (e : Entry) (m : Met) (ls : List Line) → Comes d past s e m ls →
-    commands_in (e ∷ []) ≡ []
-came_none d past _ _ _ _ (takes_coin place accepting test) = refl
-came_none d past _ _ _ _ (leaves_coin place accepting test) = refl
-came_none d past _ _ _ _ (takes_bill place banking test) = refl
-came_none d past _ _ _ _ (leaves_bill place banking test) = refl
-came_none d past _ _ _ _ (leaves_alien accepting) = refl
-came_none d past _ _ _ _ (drops_coin paying test) = refl
-came_none d past _ _ _ _ (drops_none paying test) = refl
-came_none d past _ _ _ _ (jams paying test) = refl
-came_none d past _ _ _ _ (jams_none paying test) = refl
-came_none d past _ _ _ _ is_reset = refl
-
-desk_none : (s : Step) (e : Entry) → IsOfDesk s e → commands_in (e ∷ []) ≡ []
-desk_none _ _ (tells_stock addr count) = refl
-desk_none _ _ (begins_change first amount) = refl
-desk_none _ _ (keeps_change first amount) = refl
-desk_none _ _ serves_none = refl
-desk_none _ _ (serves_later addr) = refl
-desk_none _ _ (serves_odd id) = refl
-desk_none _ _ (serves_all amount) = refl
-desk_none _ _ (serves_short paid rest) = refl
+-- what is of no job is no command
+none_of_no_job : (e : Entry) → IsOfNoJob e → commands_in (e ∷ []) ≡ []
+none_of_no_job (entry.Taken c) is = absurd is
+none_of_no_job e is = refl
 
 -- what a step brought at a device
 grows_there : (capacity : ℕ) (setup : Setup) (d : DeviceSetup) (past news : List Entry) (s : Step) → IsSoundSetup setup →
@@ -226,7 +190,7 @@ grows_there : (capacity : ℕ) (setup : Setup) (d : DeviceSetup) (past news : Li
     GrowsBy setup past news
 grows_there capacity setup d past _ _ sound ids own books (came s x m ls comes) =
     let is_quiet = came_quiet d (met d past) s x m ls comes in
-    none_in setup past x (came_none d (met d past) s x m ls comes)
+    none_in setup past x (none_of_no_job x (came_of_no_job d (met d past) s x m ls comes))
     (grows_same setup past (x ∷ past) sound
     (λ e is_of. elim (same_or_other setup d e e.addr own is_of) [
       | inl same ↦ subst (λ y. AreSame (lines_of y (x ∷ past)) (lines_of y past)) (sym same)
@@ -347,23 +311,16 @@ grows_step capacity setup past _ _ sound ids books (sold id price since none sel
       devices = λ e own.
           let other = off_host setup e sound own in
           same_end e past HOST (entry.Put r) (Some Sold) other (same_put e past r other);
-      spends = sold_spends (spoken_in setup (records past)) (spoken_in setup (r ∷ records past))
+      spends = sold_spends price (spoken_in setup (records past)) (spoken_in setup (r ∷ records past))
           (reserved_by_sale setup (job (sale_lines past))) (posted_in setup (records past))
           (sold_spoken setup (records past) id price) reserves;
       holds = sold_holds (length (records past)) (sale_holds (job (sale_lines past))) one;
     })
-  where
-    sold_spends : (spoken spoken_later now posted : ℕ) → spoken_later ≡ spoken + price → now ≡ price →
-        spoken_later + 0 + posted ≤ spoken + now + 0 + (0 + posted)
-    sold_spends spoken spoken_later now posted more same = omega (arith, more, same)
-
-    sold_holds : (many now : ℕ) → now ≡ 1 → suc many + 0 ≤ many + now + 0
-    sold_holds many now one = omega (arith, one)
 grows_step capacity setup past _ _ sound ids books balanced =
     grows_same setup past (entry.Balance (totals setup past) ∷ past) sound (λ e own. same_lines _ _ refl) refl refl
 grows_step capacity setup past _ _ sound ids books (of_desk s x is) =
     let apart = desk_apart s x is in
-    none_in setup past x (desk_none s x is)
+    none_in setup past x (none_of_no_job x (desk_of_no_job s x is))
     (grows_same setup past (x ∷ past) sound
     (λ e own. same_lines _ _ (ap (λ front. front ++ lines_of e past) (apart.own_is e past)))
     (ap (λ front. job (front ++ sale_lines past)) apart.no_sale) (apart.no_record past))

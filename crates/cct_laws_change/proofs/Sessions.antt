@@ -213,6 +213,24 @@ owed_phase setup trays past orders amount rest p (Closed paid unpaid) o is = (o,
 owed_phase setup trays past orders amount rest p Odd o is = absurd is
 owed_phase setup trays past orders amount rest p Lost o is = absurd is
 
+-- where nothing is read off entries, what is due stays as it is
+due_stays : (setup : Setup) (trays : List Tray) (news past : List Entry) (orders : List Payment) (amount rest : ℕ)
+    (p : Payment) (phase : Phase) → AreSure setup past → AreSure setup (news ++ past) →
+    HoldsDue setup trays past orders amount rest p phase → HoldsDue setup trays (news ++ past) orders amount rest p phase
+unfolding owed_over
+due_stays setup trays news past orders amount rest p Begun before sure is =
+    (is.0, settled_over setup news past orders amount rest before sure is.1)
+due_stays setup trays news past orders amount rest p Opened before sure is =
+    owed_over setup trays news past orders amount rest p before sure is
+due_stays setup trays news past orders amount rest p (Closed paid unpaid) before sure is = (
+  owed_over setup trays news past orders amount rest p before sure is.0,
+  closed_over is.0.asked.hopper.device news past p.id (record { paid = paid; unpaid = unpaid })
+      (sure_at setup (news ++ past) p.addr sure is.0.asked.hopper) is.1,
+)
+due_stays setup trays news past orders amount rest p Odd before sure is = absurd is
+due_stays setup trays news past orders amount rest p Lost before sure is =
+    settled_over setup news past orders amount rest before sure is
+
 due_over : (setup : Setup) (trays : List Tray) (news past : List Entry) (orders : List Payment) (amount rest : ℕ)
     (p : Payment) (phase : Phase) → AreSure setup past → AreSure setup (news ++ past) →
     HoldsDue setup trays past orders amount rest p phase →
@@ -225,14 +243,8 @@ due_over setup trays news past orders amount rest p Opened before sure is =
     owed_phase setup trays (news ++ past) orders amount rest p (closed_in p.id (records news))
     (owed_over setup trays news past orders amount rest p before sure is)
     (closed_news is.asked.hopper.device news past p (sure_at setup (news ++ past) p.addr sure is.asked.hopper) is.opened)
-due_over setup trays news past orders amount rest p (Closed paid unpaid) before sure is = (
-  owed_over setup trays news past orders amount rest p before sure is.0,
-  closed_over is.0.asked.hopper.device news past p.id (record { paid = paid; unpaid = unpaid })
-      (sure_at setup (news ++ past) p.addr sure is.0.asked.hopper) is.1,
-)
-due_over setup trays news past orders amount rest p Odd before sure is = absurd is
-due_over setup trays news past orders amount rest p Lost before sure is =
-    settled_over setup news past orders amount rest before sure is
+due_over setup trays news past orders amount rest p phase before sure is =
+    due_stays setup trays news past orders amount rest p phase before sure is
 
 pub by_over : (setup : Setup) (trays : List Tray) (news past : List Entry) (orders : List Payment) (s : Session)
     (due : Option Due) → AreSure setup past → AreSure setup (news ++ past) →
@@ -253,24 +265,6 @@ holds_over setup trays news past orders (Some s) same before sure is =
     (same ∙ is.0, by_over setup trays news past orders s s.due before sure is.1)
 
 -- where nothing is read off entries, a session stays as it is
-
-due_stays : (setup : Setup) (trays : List Tray) (news past : List Entry) (orders : List Payment) (amount rest : ℕ)
-    (p : Payment) (phase : Phase) → AreSure setup past → AreSure setup (news ++ past) →
-    HoldsDue setup trays past orders amount rest p phase → HoldsDue setup trays (news ++ past) orders amount rest p phase
-unfolding owed_over
-due_stays setup trays news past orders amount rest p Begun before sure is =
-    (is.0, settled_over setup news past orders amount rest before sure is.1)
-due_stays setup trays news past orders amount rest p Opened before sure is =
-    owed_over setup trays news past orders amount rest p before sure is
-due_stays setup trays news past orders amount rest p (Closed paid unpaid) before sure is = (
-  owed_over setup trays news past orders amount rest p before sure is.0,
-  closed_over is.0.asked.hopper.device news past p.id (record { paid = paid; unpaid = unpaid })
-      (sure_at setup (news ++ past) p.addr sure is.0.asked.hopper) is.1,
-)
-due_stays setup trays news past orders amount rest p Odd before sure is = absurd is
-due_stays setup trays news past orders amount rest p Lost before sure is =
-    settled_over setup news past orders amount rest before sure is
-
 pub by_stays : (setup : Setup) (trays : List Tray) (news past : List Entry) (orders : List Payment) (amount rest : ℕ)
     (due : Option Due) → AreSure setup past → AreSure setup (news ++ past) →
     HoldsBy setup trays past orders amount rest due → HoldsBy setup trays (news ++ past) orders amount rest due

@@ -9,15 +9,13 @@ use Rattle.cct_model.specs.lines.command.Step.TheVariants as step
 use Rattle.cct_model.specs.lines.entry.End.{End}
 use Rattle.cct_model.specs.lines.entry.Entry.{Entry}
 use Rattle.cct_model.specs.lines.entry.Entry.TheVariants as entry
-use Rattle.cct_model.specs.History.{Met}
 use Rattle.cct_model.specs.Job.{works, job}
 use Rattle.cct_model.specs.Legal.{Entries, with_end}
-use Rattle.cct_model.specs.Line.{Line}
 use Rattle.cct_model.specs.Script.{IsCommand, IsInRange}
 use Rattle.cct_model.specs.Transcript.{lines_of, met}
 use Rattle.cct_laws.specs.DeviceJobs.{suits}
 use Rattle.cct_laws.specs.Law.{IsOf}
-use Rattle.cct_laws.proofs.jobs.StepBrings.{Comes, takes_coin, leaves_coin, takes_bill, leaves_bill, leaves_alien, drops_coin, drops_none, jams, jams_none, is_reset, AtDevice, came, took, halted, idled, made_exchange, made_put, wire_of, wire_end, record_end, poll_wire, poll_end, IsOfDesk, tells_stock, begins_change, keeps_change, serves_none, serves_later, serves_odd, serves_all, serves_short, Brought, of_device, faulted, refused, began_scan, began_sale, nobody, polled, sold, balanced, of_desk, ended_short, lost_power, lost_in_put, lost_in_sale, brought}
+use Rattle.cct_laws.proofs.jobs.StepBrings.{AtDevice, came, took, halted, idled, made_exchange, made_put, wire_of, wire_end, record_end, poll_wire, poll_end, Brought, of_device, faulted, refused, began_scan, began_sale, nobody, polled, sold, balanced, of_desk, ended_short, lost_power, lost_in_put, lost_in_sale, brought, IsOfNoJob, came_of_no_job, desk_of_no_job}
 use Rattle.cct_laws.proofs.jobs.SeenAtOne.{lines_taken}
 
 -- the job of a payment at a hopper
@@ -38,28 +36,9 @@ abbrev IfPays : Setup → List Entry → List Entry → Type 0
 IfPays setup past (e ∷ []) = IfPay setup past e
 IfPays setup past news = ⊤
 
-came_pays : (setup : Setup) (before : List Entry) (d : DeviceSetup) (past : List Met) (s : Step) (e : Entry) (m : Met)
-    (ls : List Line) → Comes d past s e m ls → IfPay setup before e
-came_pays setup before d past _ _ _ _ (takes_coin place accepting test) = tt
-came_pays setup before d past _ _ _ _ (leaves_coin place accepting test) = tt
-came_pays setup before d past _ _ _ _ (takes_bill place banking test) = tt
-came_pays setup before d past _ _ _ _ (leaves_bill place banking test) = tt
-came_pays setup before d past _ _ _ _ (leaves_alien accepting) = tt
-came_pays setup before d past _ _ _ _ (drops_coin paying test) = tt
-came_pays setup before d past _ _ _ _ (drops_none paying test) = tt
-came_pays setup before d past _ _ _ _ (jams paying test) = tt
-came_pays setup before d past _ _ _ _ (jams_none paying test) = tt
-came_pays setup before d past _ _ _ _ is_reset = tt
-
-desk_pays : (setup : Setup) (past : List Entry) (s : Step) (e : Entry) → IsOfDesk s e → IfPay setup past e
-desk_pays setup past _ _ (tells_stock addr count) = tt
-desk_pays setup past _ _ (begins_change first amount) = tt
-desk_pays setup past _ _ (keeps_change first amount) = tt
-desk_pays setup past _ _ serves_none = tt
-desk_pays setup past _ _ (serves_later addr) = tt
-desk_pays setup past _ _ (serves_odd id) = tt
-desk_pays setup past _ _ (serves_all amount) = tt
-desk_pays setup past _ _ (serves_short paid rest) = tt
+pays_of_no_job : (setup : Setup) (past : List Entry) (e : Entry) → IsOfNoJob e → IfPay setup past e
+pays_of_no_job setup past (entry.Taken c) is = absurd is
+pays_of_no_job setup past e is = tt
 
 end_pays : (setup : Setup) (past : List Entry) (at : ℕ) (e : Entry) (end : Option End) → IfPay setup past e →
     IfPays setup past (with_end at e end)
@@ -68,7 +47,8 @@ end_pays setup past at e (Some end) is = tt
 
 there_pays : (capacity : ℕ) (setup : Setup) (d : DeviceSetup) (past news : List Entry) (s : Step) → IsInRange s →
     IsOf setup d → AtDevice capacity setup d past s news → IfPays setup past news
-there_pays capacity setup d past _ _ range own (came s e m ls comes) = came_pays setup past d (met d past) s e m ls comes
+there_pays capacity setup d past _ _ range own (came s e m ls comes) =
+    pays_of_no_job setup past e (came_of_no_job d (met d past) s e m ls comes)
 there_pays capacity setup d past _ _ range own
     (took s (command.Pay addr id count) gives suited here is_free is_taken is_owed lets) = record {
       device = d;
@@ -99,7 +79,7 @@ brought_pays capacity setup past _ _ range (polled c since check addr empty is_j
     end_pays setup past 0 (poll_wire setup past check addr) (poll_end setup past since check addr) tt
 brought_pays capacity setup past _ _ range (sold id price since empty selling) = tt
 brought_pays capacity setup past _ _ range balanced = tt
-brought_pays capacity setup past _ _ range (of_desk s e is) = desk_pays setup past s e is
+brought_pays capacity setup past _ _ range (of_desk s e is) = pays_of_no_job setup past e (desk_of_no_job s e is)
 brought_pays capacity setup past _ _ range (ended_short addr id count why paid rest small known was) = tt
 brought_pays capacity setup past _ _ range (lost_power at choice) = tt
 brought_pays capacity setup past _ _ range (lost_in_put at choice d c since r own at_work is_row) = tt

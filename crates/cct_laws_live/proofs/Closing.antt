@@ -23,10 +23,10 @@ use Rattle.cct_model.specs.Job.{Job, free, works, job, with_line, puts, Noted, n
 use Rattle.cct_model.specs.Rows.{Due, new_epoch, reading, epoch_end, new_order, order_end, sale, TableRow, waits_for_coins, rows_of, after, row, row_at, done, ends_first}
 use Rattle.cct_model.proofs.Rows.{RowHolds, DueHolds, JudgedHolds, judged_holds, is_at_device, device_puts, puts_only, told_only, each_put}
 use Rattle.cct_msg.specs.Forms.{form_shown}
-use Rattle.cct_laws_live.specs.Closes.{CloseOf, Settles, WasOpened, life_heard, none_left_heard, begins_wait, since_sent}
+use Rattle.cct_laws_live.specs.Closes.{ClosedBy, CloseOf, Settles, WasOpened, life_heard, none_left_heard, begins_wait, since_sent}
 use Rattle.cct_laws_live.specs.Posts.{Has, HasOver, HaveInTurn, since_taken}
 use Rattle.cct_laws_live.proofs.InTurn.{AreQuiet, AsksFirst, FitsForm, IsAsk, IsPlain, IsQuiet, Obeys, PutsFirst, back, has_front, less, quiet_stay, read_back}
-use Rattle.cct_laws_live.proofs.Posting.{Within, has_all, turn_within, within_more}
+use Rattle.cct_laws_live.proofs.Posting.{Within, has_all, turn_within, within_more, newest}
 
 -- a row waits for a payout
 abbrev IsWait : List TableRow → Type 0
@@ -322,15 +322,10 @@ life_is : (l : Line) (count : ℕ) → life_line l ≡ Some count → l ≡ life
 life_is (exchange (Some GetLife) (Some (reply.life c))) count is = cc
 life_is l count is = absurd cc
 
-newest_life : (l : Line) (lines : List Line) (count : ℕ) (now : Option ℕ) →
-    ((c : ℕ) → now ≡ Some c → l ≡ life_heard c) → (life_read lines ≡ Some count → Has lines (life_heard count)) →
-    option_or now (life_read lines) ≡ Some count → Has (l ∷ lines) (life_heard count)
-newest_life l lines count None here earlier is = inr (earlier is)
-newest_life l lines count (Some c) here earlier is = inl (here count is, tt)
-
 life_has : (lines : List Line) (count : ℕ) → life_read lines ≡ Some count → Has lines (life_heard count)
 life_has [] count is = absurd cc
-life_has (l ∷ lines) count is = newest_life l lines count (life_line l) (life_is l) (life_has lines count) is
+life_has (l ∷ lines) count is =
+    newest life_heard l lines count (life_line l) (life_read lines) (life_is l) (life_has lines count) is
 
 -- an order that is open was opened
 more_opened : (l : Line) (lines : List Line) (o : OpenOrder) → WasOpened lines o → WasOpened (l ∷ lines) o
@@ -377,30 +372,25 @@ close_is o life = by_test (nat_le (life_between o.life life) o.count)
     by_test true = tt
     by_test false = tt
 
+settled_by : (lines : List Line) (o : OpenOrder) (life : ℕ) (r : Record) → order lines ≡ Some o →
+    EndsHeard (since_sent lines) life → Settles o life r → ClosedBy WasOpened lines r
+settled_by lines o life r is heard settles = record {
+  owed = o;
+  life = life;
+  events = heard.0;
+  paid = heard.1;
+  unpaid = heard.2;
+  is_open = is;
+  opened = was_opened lines o is;
+  heard = heard.3;
+  settles = settles;
+}
+
 settled_of : (lines : List Line) (o : OpenOrder) (life : ℕ) (r : Record) → order lines ≡ Some o →
     EndsHeard (since_sent lines) life → Settles o life r → CloseOf WasOpened lines r
-settled_of lines o life (record_of.Closed id paid unpaid) is heard settles = record {
-  owed = o;
-  life = life;
-  events = heard.0;
-  paid = heard.1;
-  unpaid = heard.2;
-  is_open = is;
-  opened = was_opened lines o is;
-  heard = heard.3;
-  settles = settles;
-}
-settled_of lines o life (record_of.Odd id life_before life_after) is heard settles = record {
-  owed = o;
-  life = life;
-  events = heard.0;
-  paid = heard.1;
-  unpaid = heard.2;
-  is_open = is;
-  opened = was_opened lines o is;
-  heard = heard.3;
-  settles = settles;
-}
+settled_of lines o life (record_of.Closed id paid unpaid) is heard settles = settled_by lines o life _ is heard settles
+settled_of lines o life (record_of.Odd id life_before life_after) is heard settles =
+    settled_by lines o life _ is heard settles
 settled_of lines o life r is heard settles = absurd settles
 
 -- what a record closes was heard, if the job that closes it heard its end

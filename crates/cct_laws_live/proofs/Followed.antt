@@ -14,15 +14,13 @@ use Rattle.cct_model.specs.lines.command.WireFault.TheVariants as fault
 use Rattle.cct_model.specs.lines.entry.End.{End}
 use Rattle.cct_model.specs.lines.entry.Entry.{Entry}
 use Rattle.cct_model.specs.lines.entry.Entry.TheVariants as entry
-use Rattle.cct_model.specs.History.{Met}
 use Rattle.cct_model.specs.Honest.{forged_after}
 use Rattle.cct_model.specs.Legal.{with_end, command_entry, Entries, EntriesOfNext, LegalFrom}
-use Rattle.cct_model.specs.Line.{Line}
 use Rattle.cct_model.specs.Script.{IsInRange}
 use Rattle.cct_model.specs.Transcript.{heard_after, met}
 use Rattle.cct_laws.specs.Law.{HasBytes}
 use Rattle.cct_laws.proofs.wire.ForgedEntriesLast.{next_unforged, forged_off, on_wire}
-use Rattle.cct_laws.proofs.jobs.StepBrings.{IsOfDesk, tells_stock, begins_change, keeps_change, serves_none, serves_later, serves_odd, serves_all, serves_short, Comes, takes_coin, leaves_coin, takes_bill, leaves_bill, leaves_alien, drops_coin, drops_none, jams, jams_none, is_reset, AtDevice, came, took, halted, idled, made_exchange, made_put, wire_end, record_end, poll_end, Brought, of_device, faulted, refused, began_scan, began_sale, nobody, polled, sold, balanced, of_desk, ended_short, lost_power, lost_in_put, lost_in_sale, told_of, brought}
+use Rattle.cct_laws.proofs.jobs.StepBrings.{AtDevice, came, took, halted, idled, made_exchange, made_put, wire_end, record_end, poll_end, Brought, of_device, faulted, refused, began_scan, began_sale, nobody, polled, sold, balanced, of_desk, ended_short, lost_power, lost_in_put, lost_in_sale, told_of, brought, IsOfNoJob, came_of_no_job, desk_of_no_job}
 use Rattle.cct_laws.proofs.jobs.EntriesOfStep.{forged_or_not}
 use Rattle.cct_laws_live.specs.LiveStep.{LiveStep}
 use Rattle.cct_laws_live.specs.LiveStep as live
@@ -68,22 +66,15 @@ end_shown : (addr : ℕ) (e : Entry) (end : Option End) → AreShown (e ∷ []) 
 end_shown addr e None are = are
 end_shown addr e (Some end) are = ap (λ es. entry.Ended addr end ∷ es) are
 
-came_shown : (d : DeviceSetup) (past : List Met) (s : Step) (e : Entry) (m : Met) (ls : List Line) →
-    Comes d past s e m ls → AreShown (e ∷ [])
-came_shown d past _ _ _ _ (takes_coin place accepting test) = refl
-came_shown d past _ _ _ _ (leaves_coin place accepting test) = refl
-came_shown d past _ _ _ _ (takes_bill place banking test) = refl
-came_shown d past _ _ _ _ (leaves_bill place banking test) = refl
-came_shown d past _ _ _ _ (leaves_alien accepting) = refl
-came_shown d past _ _ _ _ (drops_coin paying test) = refl
-came_shown d past _ _ _ _ (drops_none paying test) = refl
-came_shown d past _ _ _ _ (jams paying test) = refl
-came_shown d past _ _ _ _ (jams_none paying test) = refl
-came_shown d past _ _ _ _ is_reset = refl
+shown_of_no_job : (e : Entry) → IsOfNoJob e → AreShown (e ∷ [])
+shown_of_no_job (entry.Fault f) is = absurd is
+shown_of_no_job (entry.Forged addr) is = absurd is
+shown_of_no_job e is = refl
 
 there_shown : (capacity : ℕ) (setup : Setup) (d : DeviceSetup) (past news : List Entry) (s : Step) →
     AtDevice capacity setup d past s news → AreShown news
-there_shown capacity setup d past _ _ (came s e m ls comes) = came_shown d (met d past) s e m ls comes
+there_shown capacity setup d past _ _ (came s e m ls comes) =
+    shown_of_no_job e (came_of_no_job d (met d past) s e m ls comes)
 there_shown capacity setup d past _ _ (took s c gives suited here is_free is_taken is_owed lets) = refl
 there_shown capacity setup d past _ _ (halted paying can) = refl
 there_shown capacity setup d past _ _ (idled is_free) = refl
@@ -97,16 +88,6 @@ abbrev SetsNone : Step → Type 0
 SetsNone (step.Fault f) = ⊥
 SetsNone s = ⊤
 
-desk_shown : (s : Step) (e : Entry) → IsOfDesk s e → AreShown (e ∷ [])
-desk_shown _ _ (tells_stock addr count) = refl
-desk_shown _ _ (begins_change first amount) = refl
-desk_shown _ _ (keeps_change first amount) = refl
-desk_shown _ _ serves_none = refl
-desk_shown _ _ (serves_later addr) = refl
-desk_shown _ _ (serves_odd id) = refl
-desk_shown _ _ (serves_all amount) = refl
-desk_shown _ _ (serves_short paid rest) = refl
-
 brought_shown : (capacity : ℕ) (setup : Setup) (past news : List Entry) (s : Step) → SetsNone s →
     Brought capacity setup past s news → AreShown news
 brought_shown capacity setup past _ _ none (of_device d s news own told) = there_shown capacity setup d past news s told
@@ -119,7 +100,7 @@ brought_shown capacity setup past _ _ none (polled c since check addr nobody_the
     end_shown BROADCAST _ (poll_end setup past since check addr) refl
 brought_shown capacity setup past _ _ none (sold id price since nobody_there selling) = refl
 brought_shown capacity setup past _ _ none balanced = refl
-brought_shown capacity setup past _ _ none (of_desk s e is) = desk_shown s e is
+brought_shown capacity setup past _ _ none (of_desk s e is) = shown_of_no_job e (desk_of_no_job s e is)
 brought_shown capacity setup past _ _ none (ended_short addr id count why paid rest small range was) = refl
 brought_shown capacity setup past _ _ none (lost_power at choice) = refl
 brought_shown capacity setup past _ _ none (lost_in_put at choice d c since r own at_work is_row) = refl

@@ -111,15 +111,16 @@ accepts_is : (l : Line) (count : ℕ) → accepts_line l ≡ Some count → l �
 accepts_is (exchange (Some AcceptCount) (Some (reply.accepts c))) count is = cc
 accepts_is l count is = absurd cc
 
-newest : (l : Line) (lines : List Line) (count : ℕ) (now : Option ℕ) →
-    ((c : ℕ) → now ≡ Some c → l ≡ accepts_heard c) → (accepts_read lines ≡ Some count → Has lines (accepts_heard count)) →
-    option_or now (accepts_read lines) ≡ Some count → Has (l ∷ lines) (accepts_heard count)
-newest l lines count None here earlier is = inr (earlier is)
-newest l lines count (Some c) here earlier is = inl (here count is, tt)
+pub newest : (heard : ℕ → Line) (l : Line) (lines : List Line) (count : ℕ) (now before : Option ℕ) →
+    ((c : ℕ) → now ≡ Some c → l ≡ heard c) → (before ≡ Some count → Has lines (heard count)) →
+    option_or now before ≡ Some count → Has (l ∷ lines) (heard count)
+newest heard l lines count None before here earlier is = inr (earlier is)
+newest heard l lines count (Some c) before here earlier is = inl (here count is, tt)
 
 accepts_has : (lines : List Line) (count : ℕ) → accepts_read lines ≡ Some count → Has lines (accepts_heard count)
 accepts_has [] count is = absurd cc
-accepts_has (l ∷ lines) count is = newest l lines count (accepts_line l) (accepts_is l) (accepts_has lines count) is
+accepts_has (l ∷ lines) count is =
+    newest accepts_heard l lines count (accepts_line l) (accepts_read lines) (accepts_is l) (accepts_has lines count) is
 
 -- a reading that shows no break and no move heard one accept counter
 shown_same : (mask counter seen read : ℕ) → shows_break mask counter seen read ≡ false → (seen == mask) ≡ true

@@ -7,7 +7,6 @@ use Rattle.cct_model.specs.lines.command.Step.{Step}
 use Rattle.cct_model.specs.lines.record.Record.{Record}
 use Rattle.cct_model.specs.lines.entry.Entry.{Entry}
 use Rattle.cct_model.specs.lines.entry.Entry.TheVariants as entry
-use Rattle.cct_model.specs.History.{Met}
 use Rattle.cct_model.specs.Job.{puts}
 use Rattle.cct_model.specs.Line.{Line, put}
 use Rattle.cct_model.specs.Records.{owner_in}
@@ -16,7 +15,7 @@ use Rattle.cct_model.specs.Transcript.{lines_of, met, owner}
 use Rattle.cct_model.proofs.Doses.{AreDoses}
 use Rattle.cct_laws.specs.Ids.{Ids}
 use Rattle.cct_laws.specs.Law.{IsOf}
-use Rattle.cct_laws.proofs.jobs.StepBrings.{AtDevice, AtWork, Brought, Comes, came, drops_coin, drops_none, halted, idled, is_reset, jams, jams_none, leaves_alien, leaves_bill, leaves_coin, made_exchange, made_put, record_end, row_after, takes_bill, takes_coin, took, wire_end, wire_of}
+use Rattle.cct_laws.proofs.jobs.StepBrings.{AtDevice, AtWork, Brought, came, halted, idled, made_exchange, made_put, record_end, row_after, took, wire_end, wire_of, IsOfNoJob, came_of_no_job}
 use Rattle.cct_laws.proofs.jobs.SeenAtOne.{Lost, Passes, bare, kept_elsewhere, kept_here, seen_aside, seen_from, seen_here, seen_lost}
 use Rattle.cct_laws_live.specs.Live.{shown}
 use Rattle.cct_laws_live.specs.Recording.{IsKeptBy, IsPutBy, IsRecordedBy}
@@ -37,18 +36,10 @@ module _ (P : List Line → Record → Type 0) (d : DeviceSetup) where
   away_recorded past (entry.Kept r) passes = away_kept past r (no_record d (owner past r) r passes.dosed)
   away_recorded past e passes = tt
 
-  came_recorded : (before : List Met) (past : List Entry) (s : Step) (e : Entry) (m : Met) (ls : List Line) →
-      Comes d before s e m ls → IsRecordedBy P d past e
-  came_recorded before past _ _ _ _ (takes_coin place accepting test) = tt
-  came_recorded before past _ _ _ _ (leaves_coin place accepting test) = tt
-  came_recorded before past _ _ _ _ (takes_bill place banking test) = tt
-  came_recorded before past _ _ _ _ (leaves_bill place banking test) = tt
-  came_recorded before past _ _ _ _ (leaves_alien accepting) = tt
-  came_recorded before past _ _ _ _ (drops_coin paying test) = tt
-  came_recorded before past _ _ _ _ (drops_none paying test) = tt
-  came_recorded before past _ _ _ _ (jams paying test) = tt
-  came_recorded before past _ _ _ _ (jams_none paying test) = tt
-  came_recorded before past _ _ _ _ is_reset = tt
+  recorded_of_no_job : (past : List Entry) (e : Entry) → IsOfNoJob e → IsRecordedBy P d past e
+  recorded_of_no_job past (entry.Put r) is = absurd is
+  recorded_of_no_job past (entry.Kept r) is = absurd is
+  recorded_of_no_job past e is = tt
 
   -- a fact of what the job of the device puts
   abbrev pub JobPuts : List Entry → Type 0
@@ -58,7 +49,8 @@ module _ (P : List Line → Record → Type 0) (d : DeviceSetup) where
 
   there_recorded : (capacity : ℕ) (setup : Setup) (past news : List Entry) (s : Step) →
       AtDevice capacity setup d past s news → JobPuts past → EachFront (IsRecordedBy P d) news past
-  there_recorded capacity setup past _ _ (came s e m ls comes) so = (came_recorded (met d past) past s e m ls comes, tt)
+  there_recorded capacity setup past _ _ (came s e m ls comes) so =
+      (recorded_of_no_job past e (came_of_no_job d (met d past) s e m ls comes), tt)
   there_recorded capacity setup past _ _ (took s c gives suited here is_free is_taken is_owed lets) so = (tt, tt)
   there_recorded capacity setup past _ _ (halted paying can) so = (tt, tt)
   there_recorded capacity setup past _ _ (idled is_free) so = (tt, tt)

@@ -19,7 +19,6 @@ use Rattle.cct_model.specs.lines.entry.End.{End}
 use Rattle.cct_model.specs.lines.entry.Entry.{Entry}
 use Rattle.cct_model.specs.lines.entry.Entry.TheVariants as entry
 use Rattle.cct_model.specs.Exchange.{ask, asked, asks_of, asked_of, to_all, to_one}
-use Rattle.cct_model.specs.History.{Met}
 use Rattle.cct_model.specs.Job.{Job, free, works, job, with_line, epoch, judged_in, sends, noted_in, address_of, ident_requests}
 use Rattle.cct_model.specs.Legal.{Legal, with_end}
 use Rattle.cct_model.specs.Line.{Line, exchange, put, taken}
@@ -39,7 +38,7 @@ use Rattle.cct_laws.specs.Ids.{Ids}
 use Rattle.cct_laws.specs.Law.{IsOf, EachEntry}
 use Rattle.cct_laws.proofs.wire.HeardBytes.{ask_to, asks_nothing, poll_others}
 use Rattle.cct_laws.proofs.setups.DeviceAt.{same_or_other}
-use Rattle.cct_laws.proofs.jobs.StepBrings.{IsOfDesk, tells_stock, begins_change, keeps_change, serves_none, serves_later, serves_odd, serves_all, serves_short, Comes, takes_coin, leaves_coin, takes_bill, leaves_bill, leaves_alien, drops_coin, drops_none, jams, jams_none, is_reset, AtDevice, came, took, halted, idled, made_exchange, made_put, Brought, of_device, faulted, refused, began_scan, began_sale, nobody, polled, sold, balanced, of_desk, ended_short, lost_power, lost_in_put, lost_in_sale, wire_of, wire_end, record_end, row_after, poll_wire, poll_end, begun_at_work}
+use Rattle.cct_laws.proofs.jobs.StepBrings.{AtDevice, came, took, halted, idled, made_exchange, made_put, Brought, of_device, faulted, refused, began_scan, began_sale, nobody, polled, sold, balanced, of_desk, ended_short, lost_power, lost_in_put, lost_in_sale, wire_of, wire_end, record_end, row_after, poll_wire, poll_end, begun_at_work, IsOfNoJob, came_of_no_job, desk_of_no_job}
 use Rattle.cct_laws.proofs.jobs.SeenAtOne.{Lost, Seen, bare, each_with_end, kept_here, kept_elsewhere, loose, loose_line, seen_here, seen_aside, seen_lost, seen_from, passed_job, along, lines_wire, lines_with_end, lines_put, lines_taken, lines_kept, lines_kept_elsewhere, not_zero}
 use Rattle.cct_laws.proofs.jobs.EntriesOfStep.{any_steps}
 use Rattle.cct_laws.proofs.orders.Ids.{put_owned}
@@ -235,18 +234,11 @@ routed_end d past addr e None = refl
 routed_end d past addr e (Some end) = refl
 
 -- nor does what comes to the device
-came_counts : (d : DeviceSetup) (before : List Met) (past : List Entry) (s : Step) (e : Entry) (m : Met) (ls : List Line) →
-    Comes d before s e m ls → (routed_in d (e ∷ past) ≡ routed_in d past) × RoutedAt d past e
-came_counts d before past _ _ _ _ (takes_coin place accepting test) = (refl, tt)
-came_counts d before past _ _ _ _ (leaves_coin place accepting test) = (refl, tt)
-came_counts d before past _ _ _ _ (takes_bill place banking test) = (refl, tt)
-came_counts d before past _ _ _ _ (leaves_bill place banking test) = (refl, tt)
-came_counts d before past _ _ _ _ (leaves_alien accepting) = (refl, tt)
-came_counts d before past _ _ _ _ (drops_coin paying test) = (refl, tt)
-came_counts d before past _ _ _ _ (drops_none paying test) = (refl, tt)
-came_counts d before past _ _ _ _ (jams paying test) = (refl, tt)
-came_counts d before past _ _ _ _ (jams_none paying test) = (refl, tt)
-came_counts d before past _ _ _ _ is_reset = (refl, tt)
+counts_of_no_job : (d : DeviceSetup) (past : List Entry) (e : Entry) → IsOfNoJob e →
+    (routed_in d (e ∷ past) ≡ routed_in d past) × RoutedAt d past e
+counts_of_no_job d past (entry.Taken c) is = absurd is
+counts_of_no_job d past (entry.Wire addr sent piece) is = absurd is
+counts_of_no_job d past e is = (refl, tt)
 
 few_anew : (addr : ℕ) (c : Command) (sent : ℕ) → sent ≤ 1 → anew_taken addr c sent ≤ 1
 few_anew addr (command.Route a way) sent few = by_test (a == addr)
@@ -269,7 +261,7 @@ ready_there : (capacity : ℕ) (setup : Setup) (d : DeviceSetup) (past news : Li
 ready_there capacity setup d past _ _ sound own ids (came s e m ls comes) ready =
     let by_itself = loose d (met d past) s e m ls comes in
     goes_same d (routed_in d past) (routed_in d (e ∷ past)) (job (lines_of d past)) (job (lines_of d (e ∷ past)))
-    (came_counts d (met d past) past s e m ls comes).0
+    (counts_of_no_job d past e (came_of_no_job d (met d past) s e m ls comes)).0
     (ap job (loose_line d past s e m ls by_itself) ∙ by_itself.same_job (lines_of d past)) ready
 ready_there capacity setup d past _ _ sound own ids (took s c gives suited here is_free is_taken is_owed lets) ready =
     let begun : job (lines_of d (entry.Taken c ∷ past)) ≡ works c [] =
@@ -320,7 +312,7 @@ routed_there : (capacity : ℕ) (setup : Setup) (d : DeviceSetup) (past news : L
     IsSoundSetup setup → IsOf setup d → AtDevice capacity setup d past s news → Ready d past →
     EachEntry (RoutedAt d) past → EachEntry (RoutedAt d) (news ++ past)
 routed_there capacity setup d past _ _ sound own (came s e m ls comes) ready before =
-    ((came_counts d (met d past) past s e m ls comes).1, before)
+    ((counts_of_no_job d past e (came_of_no_job d (met d past) s e m ls comes)).1, before)
 routed_there capacity setup d past _ _ sound own (took s c gives suited here is_free is_taken is_owed lets) ready before =
     (tt, before)
 routed_there capacity setup d past _ _ sound own (halted paying can) ready before = (tt, before)
@@ -378,19 +370,11 @@ apart_end : (d : DeviceSetup) (addr : ℕ) (e : Entry) (end : Option End) → Is
 apart_end d addr e None apart = (apart, tt)
 apart_end d addr e (Some end) apart = (tt, (apart, tt))
 
--- what a step brought at another device is none of it
-came_apart : (d e : DeviceSetup) (past : List Met) (s : Step) (n : Entry) (m : Met) (ls : List Line) →
-    Comes e past s n m ls → IsApart d n
-came_apart d e past _ _ _ _ (takes_coin place accepting test) = tt
-came_apart d e past _ _ _ _ (leaves_coin place accepting test) = tt
-came_apart d e past _ _ _ _ (takes_bill place banking test) = tt
-came_apart d e past _ _ _ _ (leaves_bill place banking test) = tt
-came_apart d e past _ _ _ _ (leaves_alien accepting) = tt
-came_apart d e past _ _ _ _ (drops_coin paying test) = tt
-came_apart d e past _ _ _ _ (drops_none paying test) = tt
-came_apart d e past _ _ _ _ (jams paying test) = tt
-came_apart d e past _ _ _ _ (jams_none paying test) = tt
-came_apart d e past _ _ _ _ is_reset = tt
+-- what is of no job is none of it, nor is what a step brought at another device
+apart_of_no_job : (d : DeviceSetup) (e : Entry) → IsOfNoJob e → IsApart d e
+apart_of_no_job d (entry.Taken c) is = absurd is
+apart_of_no_job d (entry.Wire addr sent piece) is = absurd is
+apart_of_no_job d e is = tt
 
 taken_apart : (d : DeviceSetup) (c : Command) → address_of c ≢ d.addr → (sent : ℕ) → anew_taken d.addr c sent ≡ sent
 taken_apart d (command.Route addr way) other sent = rw (ne_eqb addr d.addr other) refl
@@ -399,7 +383,7 @@ taken_apart d c other sent = refl
 elsewhere : (capacity : ℕ) (setup : Setup) (d e : DeviceSetup) (past news : List Entry) (s : Step) →
     e.addr ≢ d.addr → e.addr ≢ 0 → AtDevice capacity setup e past s news → AreApart d news
 elsewhere capacity setup d e past _ _ other some (came s n m ls comes) =
-    (came_apart d e (met e past) s n m ls comes, tt)
+    (apart_of_no_job d n (came_of_no_job e (met e past) s n m ls comes), tt)
 elsewhere capacity setup d e past _ _ other some (took s c gives suited here is_free is_taken is_owed lets) =
     (taken_apart d c (λ same. other (sym here ∙ same)), tt)
 elsewhere capacity setup d e past _ _ other some (halted paying can) = ((λ sent. refl), tt)
@@ -414,16 +398,6 @@ elsewhere capacity setup d e past _ _ other some (made_put c since r at_work is_
 
 poll_apart : (d : DeviceSetup) (kind : CheckKind) (addr : ℕ) → IsForOthers (asks_of d (ask kind addr (poll_of addr)))
 poll_apart d kind addr = poll_others d fault.Clear kind addr refl
-
-desk_apart : (d : DeviceSetup) (s : Step) (e : Entry) → IsOfDesk s e → IsApart d e
-desk_apart d _ _ (tells_stock addr count) = tt
-desk_apart d _ _ (begins_change first amount) = tt
-desk_apart d _ _ (keeps_change first amount) = tt
-desk_apart d _ _ serves_none = tt
-desk_apart d _ _ (serves_later addr) = tt
-desk_apart d _ _ (serves_odd id) = tt
-desk_apart d _ _ (serves_all amount) = tt
-desk_apart d _ _ (serves_short paid rest) = tt
 
 -- each step brought something at the device, or entries that are none of it
 here_or_apart : (capacity : ℕ) (setup : Setup) (d : DeviceSetup) (past news : List Entry) (s : Step) →
@@ -443,7 +417,7 @@ here_or_apart capacity setup d past _ _ sound is_of (polled c since check addr n
     inr (apart_end d 0 (poll_wire setup past check addr) (poll_end setup past since check addr) (poll_apart d check addr))
 here_or_apart capacity setup d past _ _ sound is_of (sold id price since none selling) = inr (tt, (tt, tt))
 here_or_apart capacity setup d past _ _ sound is_of balanced = inr (tt, tt)
-here_or_apart capacity setup d past _ _ sound is_of (of_desk s e is) = inr (desk_apart d s e is, tt)
+here_or_apart capacity setup d past _ _ sound is_of (of_desk s e is) = inr (apart_of_no_job d e (desk_of_no_job s e is), tt)
 here_or_apart capacity setup d past _ _ sound is_of (ended_short addr id count why paid rest small range was) =
     inr (tt, (tt, tt))
 here_or_apart capacity setup d past _ _ sound is_of (lost_power at choice) = inr (tt, tt)

@@ -40,7 +40,7 @@ use Rattle.cct_laws.specs.DeviceJobs.{with_ended}
 use Rattle.cct_laws.specs.Ids.{Ids}
 use Rattle.cct_laws.specs.Law.{IsOf, EachEntry, lines_in}
 use Rattle.cct_laws.proofs.setups.DeviceAt.{found_in}
-use Rattle.cct_laws.proofs.jobs.StepBrings.{Comes, takes_coin, leaves_coin, takes_bill, leaves_bill, leaves_alien, drops_coin, drops_none, jams, jams_none, is_reset, AtDevice, came, took, halted, idled, made_exchange, made_put, Brought, wire_of, wire_end, record_end, row_after, begun_at_work}
+use Rattle.cct_laws.proofs.jobs.StepBrings.{Comes, takes_coin, leaves_coin, takes_bill, leaves_bill, leaves_alien, drops_coin, drops_none, jams, jams_none, is_reset, AtDevice, came, took, halted, idled, made_exchange, made_put, Brought, wire_of, wire_end, record_end, row_after, begun_at_work, IsOfNoJob, came_of_no_job}
 use Rattle.cct_laws.proofs.jobs.SeenAtOne.{Passes, ArePassed, passed_same, passed_job, each_aside, each_with_end, loose, loose_line, Lost, bare, kept_here, kept_elsewhere, seen_here, seen_aside, seen_lost, seen_from, along, lines_wire, lines_with_end, lines_put, lines_taken, lines_kept, lines_kept_elsewhere}
 use Rattle.cct_laws.proofs.jobs.EntriesOfStep.{any_steps}
 use Rattle.cct_laws.proofs.jobs.Tries.{sent_fits}
@@ -376,24 +376,15 @@ away_sent d past (entry.Wire addr sent piece) passes = λ here.
     (eq-eqb addr d.addr here) passes.dosed)
 away_sent d past e passes = tt
 
-came_sent : (d : DeviceSetup) (before : List Met) (past : List Entry) (s : Step) (e : Entry) (m : Met) (ls : List Line) →
-    Comes d before s e m ls → SentAt d past e
-came_sent d before past _ _ _ _ (takes_coin place accepting test) = tt
-came_sent d before past _ _ _ _ (leaves_coin place accepting test) = tt
-came_sent d before past _ _ _ _ (takes_bill place banking test) = tt
-came_sent d before past _ _ _ _ (leaves_bill place banking test) = tt
-came_sent d before past _ _ _ _ (leaves_alien accepting) = tt
-came_sent d before past _ _ _ _ (drops_coin paying test) = tt
-came_sent d before past _ _ _ _ (drops_none paying test) = tt
-came_sent d before past _ _ _ _ (jams paying test) = tt
-came_sent d before past _ _ _ _ (jams_none paying test) = tt
-came_sent d before past _ _ _ _ is_reset = tt
+sent_of_no_job : (d : DeviceSetup) (past : List Entry) (e : Entry) → IsOfNoJob e → SentAt d past e
+sent_of_no_job d past (entry.Wire addr sent piece) is = absurd is
+sent_of_no_job d past e is = tt
 
 sent_there : (capacity : ℕ) (setup : Setup) (d : DeviceSetup) (past news : List Entry) (s : Step) →
     IsSoundSetup setup → IsOf setup d → AtDevice capacity setup d past s news → Ready d (lines_of d past) →
     EachEntry (SentAt d) past → EachEntry (SentAt d) (news ++ past)
 sent_there capacity setup d past _ _ sound own (came s e m ls comes) ready before =
-    (came_sent d (met d past) past s e m ls comes, before)
+    (sent_of_no_job d past e (came_of_no_job d (met d past) s e m ls comes), before)
 sent_there capacity setup d past _ _ sound own (took s c gives suited here is_free is_taken is_owed lets) ready before =
     (tt, before)
 sent_there capacity setup d past _ _ sound own (halted paying can) ready before = (tt, before)

@@ -24,13 +24,9 @@ use Rattle.cct_model.specs.Setup.{IsSoundSetup}
 use Rattle.cct_laws.specs.Ids.{Ids}
 use Rattle.cct_laws.proofs.jobs.StepBrings.{AtDevice, came, took, halted, idled, made_exchange, made_put, Brought, of_device, faulted, refused, began_scan, began_sale, nobody, polled, sold, balanced, of_desk, ended_short, lost_power, lost_in_put, lost_in_sale}
 use Rattle.cct_laws.proofs.jobs.SeenAtOne.{along_from}
-use Rattle.cct_laws.proofs.jobs.Tests.{Pass, all_pass}
+use Rattle.cct_laws.proofs.jobs.Tests.{Pass, all_pass, both_pass}
 use Rattle.cct_laws.proofs.money.Books.{Books, books_step, books_forged}
 use Rattle.cct_laws.proofs.money.Room.{full_pass}
-
-both_pass : {A : Type 0} (first second : Option A) → option_or first second ≡ None → (first ≡ None) × (second ≡ None)
-both_pass None second is = (refl, is)
-both_pass (Some x) second is = absurd cc
 
 neither : {A : Type 0} (first second : Option A) → first ≡ None → second ≡ None → option_or first second ≡ None
 neither None second one other = other

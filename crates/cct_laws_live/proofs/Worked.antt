@@ -38,7 +38,7 @@ use Rattle.cct_laws_live.specs.Sends.{SentAt}
 abbrev pub texts : Texts
 texts = record { maker = codes "BENCH"; product = codes "CCT"; software = codes "1"; build = codes "1" }
 
-abbrev banker : DeviceSetup
+abbrev pub banker : DeviceSetup
 banker = record {
   addr = 4;
   kind = Simple;
@@ -255,7 +255,7 @@ reads_bills = 4 ∷ 0 ∷ 1 ∷ 159 ∷ 92 ∷ []
 abbrev reads_mask : List ℕ
 reads_mask = 4 ∷ 0 ∷ 1 ∷ 230 ∷ 21 ∷ []
 
-abbrev stacks : List ℕ
+abbrev pub stacks : List ℕ
 stacks = 4 ∷ 1 ∷ 1 ∷ 154 ∷ 1 ∷ 95 ∷ []
 
 abbrev none_counted : List ℕ

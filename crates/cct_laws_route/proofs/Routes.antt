@@ -46,7 +46,7 @@ use Rattle.cct_laws.specs.Ids.{Ids}
 use Rattle.cct_laws.specs.Law.{EachEntry, IsAnswered, IsOf, IsUnanswered}
 use Rattle.cct_laws.specs.Scope.{IsCommandFor}
 use Rattle.cct_laws.proofs.jobs.AskedAndAnswered.{asked_at, fate_at, undisturbed_answered}
-use Rattle.cct_laws.proofs.jobs.StepBrings.{AtDevice, Brought, Comes, came, drops_coin, drops_none, halted, idled, is_reset, jams, jams_none, leaves_alien, leaves_bill, leaves_coin, made_exchange, made_put, record_end, row_after, takes_bill, takes_coin, took, wire_end, wire_of}
+use Rattle.cct_laws.proofs.jobs.StepBrings.{AtDevice, Brought, came, halted, idled, made_exchange, made_put, record_end, row_after, took, wire_end, wire_of, IsOfNoJob, came_of_no_job}
 use Rattle.cct_laws.proofs.jobs.SeenAtOne.{Lost, Passes, along, bare, each_aside, kept_elsewhere, kept_here, seen_aside, seen_from, seen_here, seen_lost}
 use Rattle.cct_laws.proofs.steps.EachKeeps.{IsRanged, ranged_step, works_at}
 use Rattle.cct_laws_live.proofs.InTurn.{FitsForm, fits_by}
@@ -365,19 +365,10 @@ ends_with : (d : DeviceSetup) (past : List Entry) (e : Entry) (end : Option End)
 ends_with d past e None at told before = (at, before)
 ends_with d past e (Some end) at told before = (λ here. told end refl, (at, before))
 
--- what comes to the device, or is none of it, has none
-came_ends : (d : DeviceSetup) (before : List Met) (past : List Entry) (s : Step) (e : Entry) (m : Met) (ls : List Line) →
-    Comes d before s e m ls → RouteEndsAt d past e
-came_ends d before past _ _ _ _ (takes_coin place accepting test) = tt
-came_ends d before past _ _ _ _ (leaves_coin place accepting test) = tt
-came_ends d before past _ _ _ _ (takes_bill place banking test) = tt
-came_ends d before past _ _ _ _ (leaves_bill place banking test) = tt
-came_ends d before past _ _ _ _ (leaves_alien accepting) = tt
-came_ends d before past _ _ _ _ (drops_coin paying test) = tt
-came_ends d before past _ _ _ _ (drops_none paying test) = tt
-came_ends d before past _ _ _ _ (jams paying test) = tt
-came_ends d before past _ _ _ _ (jams_none paying test) = tt
-came_ends d before past _ _ _ _ is_reset = tt
+-- what is of no job, or is none of the device, has none
+ends_of_no_job : (d : DeviceSetup) (past : List Entry) (e : Entry) → IsOfNoJob e → RouteEndsAt d past e
+ends_of_no_job d past (entry.Ended addr end) is = absurd is
+ends_of_no_job d past e is = tt
 
 away_ends : (d : DeviceSetup) (past : List Entry) (e : Entry) → Passes d past e → RouteEndsAt d past e
 away_ends d past (entry.Ended addr end) passes = λ here. absurd (passes.no_end.0 here)
@@ -388,7 +379,7 @@ ends_there : (capacity : ℕ) (setup : Setup) (d : DeviceSetup) (past news : Lis
     IsOf setup d → IsRanged d (job (lines_of d past)) → AtDevice capacity setup d past s news →
     EachEntry (RouteEndsAt d) past → EachEntry (RouteEndsAt d) (news ++ past)
 ends_there capacity setup d past _ _ sound own ranged (came s e m ls comes) before =
-    (came_ends d (met d past) past s e m ls comes, before)
+    (ends_of_no_job d past e (came_of_no_job d (met d past) s e m ls comes), before)
 ends_there capacity setup d past _ _ sound own ranged (took s c gives suited here is_free is_taken is_owed lets) before =
     (tt, before)
 ends_there capacity setup d past _ _ sound own ranged (halted paying can) before = (tt, before)

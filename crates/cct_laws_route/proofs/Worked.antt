@@ -1,12 +1,7 @@
 -- Bills that are held, stacked, given back, and held over a reset; `route` with each of its ends; and what no bill acceptor and
 -- no host does.
-use Rattle.std.proofs.Common.{◌≡◌, ℕ, false, List, [], ◌∷◌, ◌++◌, map, replicate, refl, Some, arith}
-use Rattle.std.specs.Prelude.{codes}
+use Rattle.std.proofs.Common.{◌≡◌, ℕ, List, [], ◌∷◌, ◌++◌, map, refl, Some, arith}
 use Rattle.cct_model.specs.terms.coin.Coin.{Coin}
-use Rattle.cct_model.specs.terms.wire.CheckKind.TheVariants.{Simple}
-use Rattle.cct_model.specs.terms.device.DeviceBody.TheVariants.{Bill}
-use Rattle.cct_model.specs.terms.device.DeviceSetup.{DeviceSetup}
-use Rattle.cct_model.specs.terms.device.Texts.{Texts}
 use Rattle.cct_model.specs.terms.request.Request.TheVariants.{RouteBill, SetMask, ResetDevice}
 use Rattle.cct_model.specs.lines.command.Command.TheVariants as command
 use Rattle.cct_model.specs.lines.entry.Entry.{Entry}
@@ -23,6 +18,7 @@ use Rattle.cct_model.specs.Reply.{reply_data, reply_in}
 use Rattle.cct_model.specs.Request.{data_of, request_of, requests_with, form_of}
 use Rattle.cct_model.specs.Setting.{has_place}
 use Rattle.cct_model.specs.Transcript.{got_by, met}
+use Rattle.cct_laws_live.proofs.Worked.{banker, stacks}
 use Rattle.cct_laws_route.specs.Escrow.{dropped, held_bills, in_escrow, left_bills, place_of, returned, stacked, stacked_since}
 use Rattle.cct_laws_route.specs.Held.{held_told}
 use Rattle.cct_laws_route.specs.Routes.{RouteEndsAt, lines_by}
@@ -105,25 +101,9 @@ not_at_place_zero : coins_among (map settled (bill_events (heard (Some (RouteBil
 unfolding has_place
 not_at_place_zero is = cc is
 
--- a bill acceptor at address 4 that lets in bills of place 1
-abbrev texts : Texts
-texts = record { maker = codes "BENCH"; product = codes "CCT"; software = codes "1"; build = codes "1" }
-
-abbrev banker : DeviceSetup
-banker = record {
-  addr = 4;
-  kind = Simple;
-  serial = 9;
-  texts = texts;
-  named = false;
-  body = Bill 0 (replicate 16 500) (replicate 16 (codes "XX500A"));
-}
-
+-- the bill acceptor at address 4 lets in bills of place 1
 abbrev lets_in : List Entry
 lets_in = entry.Wire 4 (4 ∷ 2 ∷ 1 ∷ 231 ∷ 1 ∷ 0 ∷ 17 ∷ []) (4 ∷ 2 ∷ 1 ∷ 231 ∷ 1 ∷ 0 ∷ 17 ∷ 1 ∷ 0 ∷ 4 ∷ 0 ∷ 251 ∷ []) ∷ []
-
-abbrev stacks : List ℕ
-stacks = 4 ∷ 1 ∷ 1 ∷ 154 ∷ 1 ∷ 95 ∷ []
 
 abbrev gives : List ℕ
 gives = 4 ∷ 1 ∷ 1 ∷ 154 ∷ 0 ∷ 96 ∷ []
