@@ -15,7 +15,7 @@ use Rattle.cct_model.specs.lines.entry.Entry.{Entry}
 use Rattle.cct_model.specs.lines.entry.Entry.TheVariants as entry
 use Rattle.cct_model.specs.Acceptor.{accepts, alien_event, coin_event, events, mask_of, path_of, settings, settings_after}
 use Rattle.cct_model.specs.Claims.{coins}
-use Rattle.cct_model.specs.Device.{IsAcceptor, IsBill, IsHopper}
+use Rattle.cct_model.specs.Device.{IsAcceptor, IsHopper}
 use Rattle.cct_model.specs.Exchange.{asked, asks_of}
 use Rattle.cct_model.specs.History.{Met, heard, unless_reset}
 use Rattle.cct_model.specs.Honest.{HonestPast}
@@ -28,6 +28,7 @@ use Rattle.cct_model.specs.Setting.{Setting, mask_in}
 use Rattle.cct_model.specs.Setup.{IsSoundSetup}
 use Rattle.cct_model.specs.Transcript.{at, doses, doses_of, got_by, heard_after, heard_by_devices, lines_of, met, own, pending}
 use Rattle.cct_laws.specs.Law.{IsOf}
+use Rattle.cct_laws.proofs.jobs.ReadingsMadeAgain.{no_bill}
 use Rattle.cct_laws.proofs.jobs.StepBrings.{Comes, takes_coin, leaves_coin, takes_bill, leaves_bill, leaves_alien, drops_coin, drops_none, jams, jams_none, is_reset}
 use Rattle.cct_audit_taps.specs.declared.shown.Shown.{Shown}
 use Rattle.cct_audit_taps.specs.declared.shown.Shown.TheVariants.{Read, Masked, Set, Nothing}
@@ -46,11 +47,6 @@ abbrev pub world_of : DeviceSetup → List Entry → World
 world_of d past = world_by (met d past) (lines_of d past)
 
 -- an acceptor is no other kind of device
-pub no_bill : (body : DeviceBody) → IsAcceptor body → IsBill body → ⊥
-no_bill (Acceptor accepts values ids) accepting banking = banking
-no_bill (Hopper life value) accepting banking = accepting
-no_bill (Bill accepts values ids) accepting banking = accepting
-
 pub no_hopper : (body : DeviceBody) → IsAcceptor body → IsHopper body → ⊥
 no_hopper (Acceptor accepts values ids) accepting paying = paying
 no_hopper (Hopper life value) accepting paying = accepting

@@ -1,6 +1,7 @@
 -- No other device answers what is sent to one, where the wire does honest damage alone.
-use Rattle.std.proofs.Common.{◌≡◌, ℕ, ◌%◌, ◌==◌, ◌&&◌, nat_le, not, cond, true, false, Bool, List, [], ◌∷◌, ◌++◌, length, sum, slice_index, refl, ap, sym, ◌∙◌, Option, Some, None, option_and_then, unwrap_or, eq-eqb, eqb-true}
+use Rattle.std.proofs.Common.{◌≡◌, ℕ, ◌==◌, ◌&&◌, not, cond, true, false, Bool, List, [], ◌∷◌, ◌++◌, slice_index, refl, ap, sym, ◌∙◌, Option, Some, None, option_and_then, unwrap_or, eq-eqb, eqb-true}
 use Rattle.std.specs.Option.{option_or, option_map}
+use Rattle.std.proofs.Math.Bool.{and-false}
 use Rattle.cct_model.specs.terms.wire.CheckKind.{CheckKind}
 use Rattle.cct_model.specs.terms.wire.CheckKind.TheVariants.{Simple, Crc}
 use Rattle.cct_model.specs.terms.wire.TheConstants.{HOST}
@@ -16,18 +17,18 @@ use Rattle.cct_model.specs.Reply.{Reply}
 use Rattle.cct_model.specs.History.{Met}
 use Rattle.cct_model.specs.Device.{reply_of}
 use Rattle.cct_model.specs.Setup.{IsSoundSetup}
-use Rattle.cct_model.specs.Exchange.{after_echo, answer, answer_to, asker, asks_of, bare_answer, is_from, reply_bytes, replying}
+use Rattle.cct_model.specs.Exchange.{after_echo, answer_to, asker, asks_of, bare_answer, is_from, reply_bytes, replying}
 use Rattle.cct_model.specs.Honest.{IsHonestFault}
 use Rattle.cct_model.specs.Transcript.{answers, heard_after, met, pending}
 use Rattle.cct_laws.specs.Honesty.{DamagesHonestly, IsAddressPoll}
 use Rattle.cct_laws.specs.Law.{IsOf}
 use Rattle.cct_laws.proofs.wire.Echoes.{echo_known, echo_off}
 use Rattle.cct_laws.proofs.wire.Exchanges.{heard_is, heard_under}
-use Rattle.cct_laws.proofs.wire.HeardBytes.{none_under}
+use Rattle.cct_laws.proofs.wire.HeardBytes.{none_under, message_placed}
 use Rattle.cct_laws.proofs.wire.HonestFaults.{honest_means}
 use Rattle.cct_audit_taps.specs.Taps.{is_message, is_of_other, is_to, other_answers, tap_of}
 use Rattle.cct_laws.proofs.wire.Exchanges.{damaged_answers, empty_message}
-use Rattle.cct_laws_any_host.proofs.Wire.{alone_answers, and_false, no_poll_to, none_some, placed_to}
+use Rattle.cct_laws_any_host.proofs.Wire.{alone_answers, no_poll_to, none_some}
 
 -- whom a message names
 
@@ -107,7 +108,7 @@ answered_under setup past kind sent m (fault.WholeHeard piece) no_poll damage fo
 to_first : (kind : CheckKind) (addr : ℕ) (sent : List ℕ) (found : Option Message) → message kind sent ≡ found →
     is_to addr found ≡ true → slice_index sent 0 ≡ addr
 to_first kind addr sent None is to_it = absurd cc
-to_first kind addr sent (Some m) is to_it = sym (placed_to kind sent m is) ∙ eqb-true m.to addr to_it
+to_first kind addr sent (Some m) is to_it = sym (message_placed kind sent m is).0 ∙ eqb-true m.to addr to_it
 
 module _ (setup : Setup) (d : DeviceSetup) (past : List Entry) (sent : List ℕ) (sound : IsSoundSetup setup)
     (own : IsOf setup d) (honest : IsHonestFault (pending past) sent) where
@@ -126,7 +127,7 @@ module _ (setup : Setup) (d : DeviceSetup) (past : List Entry) (sent : List ℕ)
   by_after : slice_index sent 0 ≡ d.addr → (found : Option Message) → after ≡ found → is_of_other d.addr found ≡ false
   by_after to_it None is = refl
   by_after to_it (Some m) is =
-      ap (λ b. (m.to == HOST) && not b) (after_names m to_it is) ∙ and_false (m.to == HOST)
+      ap (λ b. (m.to == HOST) && not b) (after_names m to_it is) ∙ and-false (m.to == HOST)
 
   by_message : (to_it : Bool) → is_message d.kind d.addr sent ≡ to_it → (to_it && is_of_other d.addr after) ≡ false
   by_message true is = by_after (to_first d.kind d.addr sent (message d.kind sent) refl is) after refl

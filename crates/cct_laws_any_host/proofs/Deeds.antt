@@ -2,6 +2,7 @@
 -- number, of whether it may pay, of what it has left to pay, of its life count and of its event
 -- counter is so.
 use Rattle.std.proofs.Common.{◌≡◌, ◌⊎◌, inl, inr, ℕ, zero, suc, ◌+◌, ◌-◌, ◌%◌, ◌^◌, ◌<◌, ◌≤◌, ◌==◌, ◌&&◌, ◌||◌, not, nat_le, Bool, true, false, cond, List, [], ◌∷◌, ◌++◌, length, map, refl, ap, ap₂, sym, ◌∙◌, subst, arith, eq-eqb, le_refl, Option, Some, None}
+use Rattle.std.proofs.Math.Bool.{or-true}
 use Rattle.std.specs.Prelude.{⊤}
 use Rattle.std.proofs.lemmas.Bool.Decides.{nat_tests}
 use Rattle.cct_model.specs.terms.request.TheConstants.{ENABLE_CODE}
@@ -30,6 +31,7 @@ use Rattle.cct_model.specs.Transcript.{heard_after, heard_by_devices, met, pendi
 use Rattle.cct_model.proofs.Hoppers.{IsTaken, Shown, after_end, after_heard, left_heard, remaining_heard, remaining_jam, shown, shown_alien, shown_coin, shown_fall, shown_heard, shown_jam, taken_when, with_paid, with_unpaid}
 use Rattle.cct_laws.specs.Law.{IsOf}
 use Rattle.cct_laws.proofs.wire.Replies.{start_of}
+use Rattle.cct_laws.proofs.orders.Payouts.{zero_or}
 use Rattle.cct_laws.proofs.jobs.StepBrings.{Comes, takes_coin, leaves_coin, takes_bill, leaves_bill, leaves_alien, drops_coin, drops_none, jams, jams_none, is_reset}
 use Rattle.cct_audit_taps.specs.declared.deeds.Deed.{Deed}
 use Rattle.cct_audit_taps.specs.declared.deeds.Deed.TheVariants.{Serial, Enabled, Shut, ResetTaken, Dispensed, Asked, Status, Life, OtherAnswers, Nothing}
@@ -147,10 +149,6 @@ heard_paid None (Some q) s = stop_paid (stops (Some q)) s
 paid_after : (own : ℕ) (ms : List Met) (q : Option Request) → last_paid own (heard q ∷ ms) ≤ last_paid own ms
 paid_after own ms q =
     subst (λ (s : Shown). s.paid ≤ last_paid own ms) (sym (shown_heard own q ms)) (heard_paid (taken_of own ms q) q (shown own ms))
-
-zero_or : (b : Bool) (n : ℕ) → cond b 0 n ≤ n
-zero_or true n = omega arith
-zero_or false n = le_refl n
 
 no_dose : (q : Option Request) (before : ℕ) → left_heard None q before ≤ before
 no_dose None before = le_refl before
@@ -663,11 +661,7 @@ fits_since : (read : ℕ) (k : KnownCounter) → k.least ≤ distance k.counter 
 fits_since read k least most =
     ap₂ (λ a b. nat_le read k.most || (a && b)) (le_test k.least (distance k.counter read) least)
     (le_test (distance k.counter read) k.most most)
-    ∙ or_true (nat_le read k.most)
-  where
-    or_true : (b : Bool) → (b || true) ≡ true
-    or_true true = refl
-    or_true false = refl
+    ∙ or-true (nat_le read k.most)
 
 since_fits : (read taken : ℕ) (k : KnownCounter) → read ≡ counter taken → k.most < 255 → Since taken k →
     counter_fits read k ≡ true

@@ -38,20 +38,21 @@ quiet_refl w masked = record {
   came_are = omega arith;
 }
 
+pub behind_then : (w v u : World) → Behind w v → Behind v u → Behind w u
+behind_then w v u first last = record {
+  masked = first.masked;
+  new = last.new ++ first.new;
+  events_are = last.events_are ∙ ap (λ es. last.new ++ es) first.events_are
+      ∙ sym (append_assoc last.new first.new w.events);
+  coins_are = last.coins_are ∙ ap (λ cs. coins_among last.new ++ cs) first.coins_are
+      ∙ sym (append_assoc (coins_among last.new) (coins_among first.new) w.coins)
+      ∙ ap (λ cs. cs ++ w.coins) (sym (coins_among-append last.new first.new));
+  came_are = omega (arith, last.came_are, first.came_are, length-append last.new first.new);
+}
+
 pub quiet_then : (w v u : World) → Quiet w v → Quiet v u → Quiet w u
 quiet_then w v u before since masked =
-    let last = since masked in
-    let first = before last.masked in
-    record {
-      masked = first.masked;
-      new = last.new ++ first.new;
-      events_are = last.events_are ∙ ap (λ es. last.new ++ es) first.events_are
-          ∙ sym (append_assoc last.new first.new w.events);
-      coins_are = last.coins_are ∙ ap (λ cs. coins_among last.new ++ cs) first.coins_are
-          ∙ sym (append_assoc (coins_among last.new) (coins_among first.new) w.coins)
-          ∙ ap (λ cs. cs ++ w.coins) (sym (coins_among-append last.new first.new));
-      came_are = omega (arith, last.came_are, first.came_are, length-append last.new first.new);
-    }
+    let last = since masked in behind_then w v u (before last.masked) last
 
 -- what a tap shows is what the acceptor was before it
 abbrev pub Shows : Shown → World → Type 0

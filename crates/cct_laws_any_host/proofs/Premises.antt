@@ -33,6 +33,7 @@ use Rattle.cct_model.specs.Setup.{IsSoundSetup}
 use Rattle.cct_model.specs.Transcript.{heard_after, heard_by_devices, met, pending}
 use Rattle.cct_laws.specs.Law.{IsOf}
 use Rattle.cct_laws.specs.Takers.{held_of, told_events}
+use Rattle.cct_laws.proofs.acceptor.BesideCoins.{no_place}
 use Rattle.cct_laws.proofs.jobs.StepBrings.{Comes, takes_coin, leaves_coin, takes_bill, leaves_bill, leaves_alien, drops_coin, drops_none, jams, jams_none, is_reset}
 use Rattle.cct_audit_taps.specs.declared.money.Money.{Money}
 use Rattle.cct_audit_taps.specs.declared.money.Money.TheVariants.{Coins, Bills}
@@ -85,10 +86,6 @@ still_known body ms ns (Some k) leaves known = record {
 }
 
 -- ---- what comes to it
-
-no_place : (place : ℕ) → has_place 0 place ≡ false
-unfolding has_place
-no_place place = grind (arith, nat_tests)
 
 shut_out : (ms : List Met) (place : ℕ) → mask_of ms ≡ 0 → accepts ms place ≡ false
 shut_out ms place shut =

@@ -1,21 +1,20 @@
 -- An acceptor that is watched for resets alone: what is said of a span is so if no reset came between its readings. Without
 -- entries or bytes.
-use Rattle.std.proofs.Common.{◌≡◌, ℕ, suc, ◌≤◌, ◌==◌, ◌||◌, not, nat_le, Bool, true, false, cond, List, [], ◌∷◌, ◌++◌, map, length, refl, sym, ap, ◌∙◌, subst, arith, Option, Some, None, All, length-append, append_assoc}
+use Rattle.std.proofs.Common.{◌≡◌, ℕ, suc, ◌≤◌, ◌==◌, ◌||◌, not, nat_le, Bool, true, false, cond, List, [], ◌∷◌, map, length, refl, sym, subst, arith, Option, Some, None, All}
 use Rattle.std.specs.Prelude.{⊤}
 use Rattle.std.specs.List.{list_any}
 use Rattle.std.proofs.lemmas.Bool.{and_parts}
 use Rattle.std.proofs.lemmas.Bool.Decides.{nat_tests}
 use Rattle.std.proofs.lemmas.List.Elements.{All-append, All-cons, All-map, All-nil, All-weaker}
 use Rattle.cct_model.specs.Acceptor.{credits_in}
-use Rattle.cct_model.specs.Reading.{coins_among, distance}
-use Rattle.cct_laws.proofs.acceptor.NewestEvents.{coins_among-append}
+use Rattle.cct_model.specs.Reading.{distance}
 use Rattle.cct_audit_taps.specs.declared.said.Said.{Said}
 use Rattle.cct_audit_taps.specs.declared.said.Said.TheVariants.{Sure, Quiet, Doubt, Fell, Broken}
 use Rattle.cct_audit_taps.specs.declared.shown.Shown.{Shown}
 use Rattle.cct_audit_taps.specs.declared.shown.Shown.TheVariants.{Read, Masked, Set, Nothing}
 use Rattle.cct_monitor.specs.Once.{all_quietly}
 use Rattle.cct_monitor.specs.Spans.{Reading, Span, after_it, are_near, coins_of, doubted, goes_on, is_set, is_whole, last_reading, new_reading, quiet_at, quietly, spans, spans_by}
-use Rattle.cct_laws_any_host.proofs.Moments.{Behind, World}
+use Rattle.cct_laws_any_host.proofs.Moments.{Behind, World, behind_then}
 use Rattle.cct_laws_any_host.proofs.Sure.{AreTold, behind_told}
 
 -- an acceptor at a moment, and how often it was reset by then
@@ -27,18 +26,6 @@ pub record Moment : Type 0 where
 pub record Still (w v : Moment) : Type 0 where
   pub more : w.resets ≤ v.resets
   pub behind : v.resets ≡ w.resets → Behind w.world v.world
-
-pub behind_then : (w v u : World) → Behind w v → Behind v u → Behind w u
-behind_then w v u first last = record {
-  masked = first.masked;
-  new = last.new ++ first.new;
-  events_are = last.events_are ∙ ap (λ es. last.new ++ es) first.events_are
-      ∙ sym (append_assoc last.new first.new w.events);
-  coins_are = last.coins_are ∙ ap (λ cs. coins_among last.new ++ cs) first.coins_are
-      ∙ sym (append_assoc (coins_among last.new) (coins_among first.new) w.coins)
-      ∙ ap (λ cs. cs ++ w.coins) (sym (coins_among-append last.new first.new));
-  came_are = omega (arith, last.came_are, first.came_are, length-append last.new first.new);
-}
 
 pub still_then : (w v u : Moment) → Still w v → Still v u → Still w u
 still_then w v u before since = record {
@@ -98,15 +85,9 @@ last_was_read : (at : ℕ → Moment) (shows : List Shown) (now : Moment) → Pa
     IfWasRead at now (last_reading shows)
 last_was_read at [] now passes = tt
 last_was_read at (Read c ∷ past) now passes = record { credits_are = passes.0; still = passes.1 }
-last_was_read at (Masked mask ∷ past) now passes =
+last_was_read at (s ∷ past) now passes =
     let before = at (suc (length past)) in
-    goes_by at before now (Masked mask) (last_reading past) passes.1 (last_was_read at past before passes.2)
-last_was_read at (Set ∷ past) now passes =
-    let before = at (suc (length past)) in
-    goes_by at before now Set (last_reading past) passes.1 (last_was_read at past before passes.2)
-last_was_read at (Nothing ∷ past) now passes =
-    let before = at (suc (length past)) in
-    goes_by at before now Nothing (last_reading past) passes.1 (last_was_read at past before passes.2)
+    goes_by at before now s (last_reading past) passes.1 (last_was_read at past before passes.2)
 
 -- a span, between two readings
 pub record Stretch (at : ℕ → Moment) (x : Span) : Type 0 where

@@ -48,15 +48,9 @@ if_goes_by at before now s (Some r) moves is = goes_by at before now s r moves i
 last_read : (at : ℕ → World) (shows : List Shown) (now : World) → Runs at shows now → IfRead at now (last_reading shows)
 last_read at [] now runs = tt
 last_read at (Read c ∷ past) now runs = record { credits_are = runs.0; quiet = λ none. runs.1 refl }
-last_read at (Masked mask ∷ past) now runs =
+last_read at (s ∷ past) now runs =
     let before = at (suc (length past)) in
-    if_goes_by at before now (Masked mask) (last_reading past) runs.1 (last_read at past before runs.2)
-last_read at (Set ∷ past) now runs =
-    let before = at (suc (length past)) in
-    if_goes_by at before now Set (last_reading past) runs.1 (last_read at past before runs.2)
-last_read at (Nothing ∷ past) now runs =
-    let before = at (suc (length past)) in
-    if_goes_by at before now Nothing (last_reading past) runs.1 (last_read at past before runs.2)
+    if_goes_by at before now s (last_reading past) runs.1 (last_read at past before runs.2)
 
 -- a span, between two readings
 pub record SpanIn (at : ℕ → World) (now : World) (x : Span) : Type 0 where

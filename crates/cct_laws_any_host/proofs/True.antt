@@ -1,8 +1,7 @@
 -- All that a monitor says at the taps of a run of any host is true.
-use Rattle.std.proofs.Common.{◌≡◌, ℕ, Bool, true, false, cond, List, [], ◌∷◌, ◌++◌, map, flat_map, sym, subst, subst₂, append-nil, All, nat_le}
+use Rattle.std.proofs.Common.{◌≡◌, ℕ, Bool, true, false, cond, List, [], ◌∷◌, ◌++◌, map, flat_map, sym, subst, subst₂, append-nil, All, nat_le, refl}
 use Rattle.std.specs.Prelude.{⊤}
 use Rattle.std.proofs.lemmas.List.Elements.{All-append, All-cons, All-head, All-nil, All-tail, All-weaker}
-use Rattle.cct_model.specs.terms.wire.CheckKind.{CheckKind}
 use Rattle.cct_model.specs.terms.device.DeviceSetup.{DeviceSetup}
 use Rattle.cct_model.specs.terms.device.Setup.{Setup}
 use Rattle.cct_model.specs.lines.entry.Entry.{Entry}
@@ -117,64 +116,16 @@ abbrev EachTap : (Tap → List Tap → Type 0) → List Tap → Type 0
 EachTap P [] = ⊤
 EachTap P (t ∷ ts) = P t ts × EachTap P ts
 
-acceptor_taps : (Q : Said → Type 0) (kind : CheckKind) (addr : ℕ) (ts : List Tap) →
-    All Q (all_said addr (map (shown kind addr) ts)) →
-    EachTap (λ t before. All Q (said_at addr (shown kind addr t) (map (shown kind addr) before ++ []))) ts
-acceptor_taps Q kind addr [] all = tt
-acceptor_taps Q kind addr (t ∷ ts) all =
-    let before = map (shown kind addr) ts in
-    let now = said_at addr (shown kind addr t) before in (
-      subst (λ xs. All Q (said_at addr (shown kind addr t) xs)) (sym (append-nil before))
-          (last_all Q (all_said addr before) now all),
-      acceptor_taps Q kind addr ts (first_all Q (all_said addr before) now all),
-    )
-
-quiet_taps : (Q : Said → Type 0) (money : Money) (kind : CheckKind) (addr : ℕ) (ts : List Tap) →
-    All Q (all_quietly addr (map (quiet_shown money kind addr) ts)) →
-    EachTap (λ t before. All Q (quiet_at addr (quiet_shown money kind addr t) (map (quiet_shown money kind addr) before ++ []))) ts
-quiet_taps Q money kind addr [] all = tt
-quiet_taps Q money kind addr (t ∷ ts) all =
-    let before = map (quiet_shown money kind addr) ts in
-    let now = quiet_at addr (quiet_shown money kind addr t) before in (
-      subst (λ xs. All Q (quiet_at addr (quiet_shown money kind addr t) xs)) (sym (append-nil before))
-          (last_all Q (all_quietly addr before) now all),
-      quiet_taps Q money kind addr ts (first_all Q (all_quietly addr before) now all),
-    )
-
-premise_taps : (Q : Said → Type 0) (money : Money) (kind : CheckKind) (addr : ℕ) (ts : List Tap) →
-    All Q (all_broken addr (map (sign money kind addr) ts)) →
-    EachTap (λ t before. All Q (broken_at addr (sign money kind addr t) (map (sign money kind addr) before ++ []))) ts
-premise_taps Q money kind addr [] all = tt
-premise_taps Q money kind addr (t ∷ ts) all =
-    let before = map (sign money kind addr) ts in
-    let now = broken_at addr (sign money kind addr t) before in (
-      subst (λ xs. All Q (broken_at addr (sign money kind addr t) xs)) (sym (append-nil before))
-          (last_all Q (all_broken addr before) now all),
-      premise_taps Q money kind addr ts (first_all Q (all_broken addr before) now all),
-    )
-
-deed_taps : (Q : Said → Type 0) (kind : CheckKind) (addr : ℕ) (ts : List Tap) →
-    All Q (all_wrong addr (map (deed kind addr) ts)) →
-    EachTap (λ t before. All Q (hopper_broken_at addr (deed kind addr t) (map (deed kind addr) before ++ []))) ts
-deed_taps Q kind addr [] all = tt
-deed_taps Q kind addr (t ∷ ts) all =
-    let before = map (deed kind addr) ts in
-    let now = hopper_broken_at addr (deed kind addr t) before in (
-      subst (λ xs. All Q (hopper_broken_at addr (deed kind addr t) xs)) (sym (append-nil before))
-          (last_all Q (all_wrong addr before) now all),
-      deed_taps Q kind addr ts (first_all Q (all_wrong addr before) now all),
-    )
-
-hopper_taps : (Q : Said → Type 0) (kind : CheckKind) (addr : ℕ) (ts : List Tap) →
-    All Q (all_fell addr (map (life_shown kind addr) ts)) →
-    EachTap (λ t before. All Q (fell_at addr (life_shown kind addr t) (map (life_shown kind addr) before ++ []))) ts
-hopper_taps Q kind addr [] all = tt
-hopper_taps Q kind addr (t ∷ ts) all =
-    let before = map (life_shown kind addr) ts in
-    let now = fell_at addr (life_shown kind addr t) before in (
-      subst (λ xs. All Q (fell_at addr (life_shown kind addr t) xs)) (sym (append-nil before))
-          (last_all Q (all_fell addr before) now all),
-      hopper_taps Q kind addr ts (first_all Q (all_fell addr before) now all),
+-- what is said at each tap, where what is said of all is what is said of those before it, and at the newest one
+each_tap : {S : Type 0} (Q : Said → Type 0) (shows : Tap → S) (at : S → List S → List Said) (of_all : List S → List Said) →
+    ((s : S) (before : List S) → of_all (s ∷ before) ≡ of_all before ++ at s before) → (ts : List Tap) →
+    All Q (of_all (map shows ts)) → EachTap (λ t before. All Q (at (shows t) (map shows before ++ []))) ts
+each_tap Q shows at of_all split [] all = tt
+each_tap Q shows at of_all split (t ∷ ts) all =
+    let before = map shows ts in
+    let both : All Q (of_all before ++ at (shows t) before) = subst (All Q) (split (shows t) before) all in (
+      subst (λ xs. All Q (at (shows t) xs)) (sym (append-nil before)) (last_all Q (of_all before) _ both),
+      each_tap Q shows at of_all split ts (first_all Q (of_all before) _ both),
     )
 
 -- of one that is watched
@@ -188,25 +139,28 @@ watch_true setup steps past w sound (d, own, is) goes honest = by_family w.famil
     by_family : (fam : Family) → IsOfFamily fam d.body →
         EachTap (λ t before. All (IsTrue setup past) (said_by fam t (from_begin before w))) (taps past)
     by_family watched_as.Acceptor accepting =
-        acceptor_taps (IsTrue setup past) w.kind w.addr (taps past)
+        each_tap (IsTrue setup past) (shown w.kind w.addr) (said_at w.addr) (all_said w.addr) (λ s before. refl) (taps past)
         (subst₂ (λ kind addr. All (IsTrue setup past) (all_said addr (map (shown kind addr) (taps past))))
         (sym is.kind_is) (sym is.addr_is) (acceptor_true setup steps past d sound own accepting goes honest))
     by_family (watched_as.QuietAcceptor money) takes =
-        quiet_taps (IsTrue setup past) money w.kind w.addr (taps past)
+        each_tap (IsTrue setup past) (quiet_shown money w.kind w.addr) (quiet_at w.addr) (all_quietly w.addr) (λ s before. refl)
+        (taps past)
         (subst₂ (λ kind addr. All (IsTrue setup past) (all_quietly addr (map (quiet_shown money kind addr) (taps past))))
         (sym is.kind_is) (sym is.addr_is) (quiet_true money setup steps past d sound own takes goes honest))
     by_family (watched_as.Premises money) takes =
-        premise_taps (IsTrue setup past) money w.kind w.addr (taps past)
+        each_tap (IsTrue setup past) (sign money w.kind w.addr) (broken_at w.addr) (all_broken w.addr) (λ s before. refl)
+        (taps past)
         (subst₂ (λ kind addr. All (IsTrue setup past) (all_broken addr (map (sign money kind addr) (taps past))))
         (sym is.kind_is) (sym is.addr_is)
         (subst (All (IsTrue setup past)) (sym (none_broken money setup steps past d sound own takes goes honest))
         (All-nil (IsTrue setup past))))
     by_family watched_as.Hopper paying =
-        hopper_taps (IsTrue setup past) w.kind w.addr (taps past)
+        each_tap (IsTrue setup past) (life_shown w.kind w.addr) (fell_at w.addr) (all_fell w.addr) (λ s before. refl) (taps past)
         (subst₂ (λ kind addr. All (IsTrue setup past) (all_fell addr (map (life_shown kind addr) (taps past))))
         (sym is.kind_is) (sym is.addr_is) (hopper_true setup steps past d sound own paying goes honest))
     by_family watched_as.HopperPremises paying =
-        deed_taps (IsTrue setup past) w.kind w.addr (taps past)
+        each_tap (IsTrue setup past) (deed w.kind w.addr) (hopper_broken_at w.addr) (all_wrong w.addr) (λ s before. refl)
+        (taps past)
         (subst₂ (λ kind addr. All (IsTrue setup past) (all_wrong addr (map (deed kind addr) (taps past))))
         (sym is.kind_is) (sym is.addr_is)
         (subst (All (IsTrue setup past)) (sym (none_wrong setup steps past d sound own paying goes honest))

@@ -1,6 +1,7 @@
 -- What a tap shows of a device is what the device is, where the wire does honest damage alone.
-use Rattle.std.proofs.Common.{subst, ◌≡◌, ◌≢◌, ℕ, ◌+◌, ◌≤◌, ◌==◌, ◌&&◌, nat_le, cond, true, false, Bool, List, [], ◌∷◌, ◌++◌, length, slice_index, flat_map, refl, ap, sym, ◌∙◌, Option, Some, None, option_and_then, unwrap_or, arith, eq-eqb, eqb-true, append-nil, length-append, length-take}
+use Rattle.std.proofs.Common.{subst, ◌≡◌, ◌≢◌, ℕ, ◌+◌, ◌≤◌, ◌==◌, ◌&&◌, cond, true, false, Bool, List, [], ◌∷◌, ◌++◌, length, slice_index, flat_map, refl, ap, sym, ◌∙◌, Option, Some, None, option_and_then, unwrap_or, arith, eqb-true, length-append, length-take}
 use Rattle.std.specs.Prelude.{⊤}
+use Rattle.std.proofs.Math.Bool.{and-false}
 use Rattle.cct_model.specs.terms.coin.Pair.{Pair}
 use Rattle.cct_model.specs.terms.coin.Credits.{Credits}
 use Rattle.cct_model.specs.terms.wire.CheckKind.{CheckKind}
@@ -27,20 +28,20 @@ use Rattle.cct_model.specs.Bill.{bill_events, bill_reply, bills_of}
 use Rattle.cct_model.specs.Hopper.{dispense_reply, hopper_reply, last_paid, last_unpaid, life_count, payouts, remaining, status_of, taken_of}
 use Rattle.cct_model.specs.Device.{IsSound, IsAcceptor, IsBill, IsHopper, IsTaker, common_reply, reply_of}
 use Rattle.cct_model.specs.Job.{credits_request}
-use Rattle.cct_model.specs.Setup.{AreDistinct, IsSoundSetup}
-use Rattle.cct_model.specs.Exchange.{asked_of, asker, asks_of, answer, after_echo, by_address, device_at, got, put_by_address, replying, reply_from, to_all, to_one}
+use Rattle.cct_model.specs.Setup.{IsSoundSetup}
+use Rattle.cct_model.specs.Exchange.{asked_of, asker, asks_of, answer, after_echo, got, replying, reply_from, to_all, to_one}
 use Rattle.cct_model.specs.Honest.{IsHonestFault}
 use Rattle.cct_model.specs.Transcript.{answers, heard_after, heard_by_devices, met, pending}
 use Rattle.cct_frame.specs.Frame.{carried}
 use Rattle.cct_frame.proofs.Spellings.{written_back}
 use Rattle.cct_msg.specs.Forms.{IsWhole, form_shown}
 use Rattle.cct_msg.proofs.Exchanges.{reply_heard}
-use Rattle.cct_laws.specs.Honesty.{DamagesHonestly, IsAddressPoll, IsNoMessage}
+use Rattle.cct_laws.specs.Honesty.{DamagesHonestly, IsAddressPoll}
 use Rattle.cct_laws.specs.Law.{IsOf}
 use Rattle.cct_laws.specs.Takers.{told_events}
 use Rattle.cct_laws.proofs.wire.Echoes.{echo_known, echo_off}
 use Rattle.cct_laws.proofs.wire.Exchanges.{damaged_answers, empty_message, heard_is, heard_under, one_gives, silent_to}
-use Rattle.cct_laws.proofs.wire.HeardBytes.{ask_to, asks_nothing, damaged_asks, none_under}
+use Rattle.cct_laws.proofs.wire.HeardBytes.{ask_to, asks_nothing, damaged_asks, none_under, message_placed}
 use Rattle.cct_laws.proofs.wire.HonestFaults.{honest_means}
 use Rattle.cct_laws.proofs.wire.Replies.{acceptor_is, bill_is, hopper_is, replied_credits, replied_life, replied_mask, replied_status, start_of, taker_is}
 use Rattle.cct_laws.proofs.setups.DeviceAt.{found_in, same_some}
@@ -52,27 +53,6 @@ pub none_some : {A : Type 0} (x : A) → None ≡ Some x → ⊥
 none_some x e = cc
 
 -- ---- whom bytes are for
-
-passed : (fits : Bool) (x m : Message) → cond fits (Some x) None ≡ Some m → x ≡ m
-passed true x m found = cc
-passed false x m found = absurd cc
-
-goes_to : (x m : Message) (to : ℕ) → x.to ≡ to → x ≡ m → m.to ≡ to
-goes_to x m to own same = sym (ap (λ (n : Message). n.to) same) ∙ own
-
-pub placed_to : (kind : CheckKind) (piece : List ℕ) (m : Message) → message kind piece ≡ Some m →
-    m.to ≡ slice_index piece 0
-unfolding message
-placed_to Simple [] m found = absurd cc
-placed_to Simple (a ∷ []) m found = absurd cc
-placed_to Simple (a ∷ b ∷ []) m found = absurd cc
-placed_to Simple (a ∷ b ∷ c ∷ []) m found = absurd cc
-placed_to Simple (to ∷ said ∷ from ∷ header ∷ rest) m found = goes_to _ m to refl (passed _ _ m found)
-placed_to Crc [] m found = absurd cc
-placed_to Crc (a ∷ []) m found = absurd cc
-placed_to Crc (a ∷ b ∷ []) m found = absurd cc
-placed_to Crc (a ∷ b ∷ c ∷ []) m found = absurd cc
-placed_to Crc (to ∷ said ∷ low ∷ header ∷ rest) m found = goes_to _ m to refl (passed _ _ m found)
 
 -- what is asked of all is an address poll
 poll_alone : (asked : Option Request) (q : Request) → to_all asked ≡ Some q → q ≡ AddressPoll
@@ -91,7 +71,7 @@ first_by : (d : DeviceSetup) (piece : List ℕ) (q : Request) (found : Option Me
 first_by d piece q None was other is = absurd cc
 first_by d piece q (Some m) was other is =
     let own = for_one (m.to == d.addr) (m.to == BROADCAST) (request_of m.header m.body) q other is in
-    sym (placed_to d.kind piece m was) ∙ eqb-true m.to d.addr own
+    sym (message_placed d.kind piece m was).0 ∙ eqb-true m.to d.addr own
 
 first_is : (d : DeviceSetup) (piece : List ℕ) (q : Request) → (q ≡ AddressPoll → ⊥) → asks_of d piece ≡ Some q →
     slice_index piece 0 ≡ d.addr
@@ -99,19 +79,6 @@ unfolding asks_of
 first_is d piece q other is = first_by d piece q (message d.kind piece) refl other is
 
 -- ---- the asked device alone answers
-
--- a request that a device heard, whoever sent it, with its reply
-record Replies (setup : Setup) (d : DeviceSetup) (past : List Entry) (sent : List ℕ) (q : Request) (y : Reply)
-    (wanted : ReplyForm) : Type 0 where
-  sound : IsSoundSetup setup
-  own : IsOf setup d
-  no_poll : q ≡ AddressPoll → ⊥
-  asks : asks_of d sent ≡ Some q
-  replied : reply_of d (met d past) q ≡ Some y
-  fits : form_shown y ≡ Some wanted
-  whole : IsWhole y
-  sayable : IsSayable y
-  short : length (reply_data y) ≤ 255
 
 answer_is : (d : DeviceSetup) (past : List Met) (sent : List ℕ) (q : Request) (y : Reply) → asks_of d sent ≡ Some q →
     reply_of d past q ≡ Some y → answer d past sent ≡ Some (spelling d.kind (replying (asker d.kind sent) d.addr y))
@@ -219,27 +186,13 @@ got_clear setup d past sent z wanted (fault.WholeHeard piece) no_poll damage fou
     (λ rest after. none_under d.kind rest ((damage no_poll).1 rest (echo_known sent piece rest after)))
     found)
 
--- it is its reply
-got_under : (setup : Setup) (d : DeviceSetup) (past : List Entry) (sent : List ℕ) (q : Request) (y z : Reply)
-    (wanted : ReplyForm) (f : WireFault) → Replies setup d past sent q y wanted → DamagesHonestly f sent →
-    got d.kind d.addr wanted sent (heard_under setup past f sent) ≡ Some z → z ≡ y
-got_under setup d past sent q y z wanted f is damage found =
-    read_to d.kind wanted (asker d.kind sent) d.addr y z is.fits is.whole is.sayable is.short
-    (ap (read_from d.kind d.addr wanted)
-    (sym (answers_are setup d past sent q y is.sound is.own is.no_poll is.asks is.replied))
-    ∙ got_clear setup d past sent z wanted f (no_address_poll setup d sent q is.sound is.own is.no_poll is.asks) damage found)
-
 -- a refusal is no other reply
-pub and_false : (b : Bool) → (b && false) ≡ false
-and_false true = refl
-and_false false = refl
-
 refusal_by : (kind : CheckKind) (wanted : ReplyForm) (to addr : ℕ) →
     reply_from wanted addr (carried kind (replying to addr reply.nak)) ≡ None
 refusal_by Simple wanted to addr =
-    ap (λ b. cond b (reply_in wanted (reply_data reply.nak)) None) (and_false ((to == HOST) && (addr == addr)))
+    ap (λ b. cond b (reply_in wanted (reply_data reply.nak)) None) (and-false ((to == HOST) && (addr == addr)))
 refusal_by Crc wanted to addr =
-    ap (λ b. cond b (reply_in wanted (reply_data reply.nak)) None) (and_false ((to == HOST) && true))
+    ap (λ b. cond b (reply_in wanted (reply_data reply.nak)) None) (and-false ((to == HOST) && true))
 
 nak_short : length (reply_data reply.nak) ≤ 255
 unfolding reply_data
@@ -262,12 +215,17 @@ refused setup d past sent q z wanted sound own honest no_poll asks replied found
     ∙ refusal_by d.kind wanted (asker d.kind sent) d.addr in
     none_some z (sym none ∙ read)
 
-got_any : (setup : Setup) (d : DeviceSetup) (past : List Entry) (sent : List ℕ) (q : Request) (y z : Reply)
-    (wanted : ReplyForm) → Replies setup d past sent q y wanted → IsHonestFault (pending past) sent →
+-- what is got of a device that heard a request, whoever sent it, is its reply
+reply_told : (setup : Setup) (d : DeviceSetup) (past : List Entry) (sent : List ℕ) (q : Request) (y z : Reply)
+    (wanted : ReplyForm) → IsSoundSetup setup → IsOf setup d → IsHonestFault (pending past) sent →
+    (q ≡ AddressPoll → ⊥) → asks_of d sent ≡ Some q → reply_of d (met d past) q ≡ Some y →
+    form_shown y ≡ Some wanted → IsWhole y → IsSayable y → length (reply_data y) ≤ 255 →
     got d.kind d.addr wanted sent (heard_after setup past sent) ≡ Some z → z ≡ y
-got_any setup d past sent q y z wanted is honest found =
-    got_under setup d past sent q y z wanted (pending past) is (honest_means (pending past) sent honest)
-    (ap (got d.kind d.addr wanted sent) (sym (heard_is setup past sent)) ∙ found)
+reply_told setup d past sent q y z wanted sound own honest no_poll asks replied fits whole sayable short found =
+    read_to d.kind wanted (asker d.kind sent) d.addr y z fits whole sayable short
+    (ap (read_from d.kind d.addr wanted) (sym (answers_are setup d past sent q y sound own no_poll asks replied))
+    ∙ got_clear setup d past sent z wanted (pending past) (no_address_poll setup d sent q sound own no_poll asks)
+    (honest_means (pending past) sent honest) (ap (got d.kind d.addr wanted sent) (sym (heard_is setup past sent)) ∙ found))
 
 -- ---- what a tap shows
 
@@ -390,20 +348,10 @@ unfolding asks_of
 read_told setup d past sent c sound own accepting honest is =
     let parts = shown_read (option_and_then (asked_of d.addr) (message d.kind sent))
     (λ wanted. got d.kind d.addr wanted sent (heard_after setup past sent)) c is in
-    let replies : Replies setup d past sent ReadCredits (reply.credits (credits_of (met d past))) form.Credits = record {
-      sound = sound;
-      own = own;
-      no_poll = λ e. cc;
-      asks = parts.0;
-      replied = credits_replied d (met d past) accepting;
-      fits = refl;
-      whole = five_kept (events (met d past));
-      sayable = tt;
-      short = credits_short (credits_of (met d past)) (five_kept (events (met d past)));
-    } in
     same_credits c (credits_of (met d past))
-    (got_any setup d past sent ReadCredits (reply.credits (credits_of (met d past))) (reply.credits c) form.Credits replies
-    honest parts.1)
+    (reply_told setup d past sent ReadCredits _ _ form.Credits sound own honest (λ e. cc) parts.0
+    (credits_replied d (met d past) accepting) refl (five_kept (events (met d past))) tt
+    (credits_short (credits_of (met d past)) (five_kept (events (met d past)))) parts.1)
 
 mask_told : (setup : Setup) (d : DeviceSetup) (past : List Entry) (sent : List ℕ) (mask : ℕ) → IsSoundSetup setup →
     IsOf setup d → IsAcceptor d.body → IsHonestFault (pending past) sent →
@@ -412,20 +360,10 @@ unfolding asks_of
 mask_told setup d past sent mask sound own accepting honest is =
     let parts = shown_mask (option_and_then (asked_of d.addr) (message d.kind sent))
     (λ wanted. got d.kind d.addr wanted sent (heard_after setup past sent)) mask is in
-    let replies : Replies setup d past sent GetMask (reply.mask (mask_of (met d past))) form.Mask = record {
-      sound = sound;
-      own = own;
-      no_poll = λ e. cc;
-      asks = parts.0;
-      replied = mask_replied d (met d past) accepting;
-      fits = refl;
-      whole = tt;
-      sayable = tt;
-      short = mask_short (mask_of (met d past));
-    } in
     same_mask mask (mask_of (met d past))
-    (got_any setup d past sent GetMask (reply.mask (mask_of (met d past))) (reply.mask mask) form.Mask replies honest
-    parts.1)
+    (reply_told setup d past sent GetMask _ _ form.Mask sound own honest (λ e. cc) parts.0
+    (mask_replied d (met d past) accepting) refl tt tt
+    (mask_short (mask_of (met d past))) parts.1)
 
 keeps_under : (d : DeviceSetup) (f : WireFault) (sent : List ℕ) → DamagesHonestly f sent → Keeps (asks_of d sent) →
     Keeps (asks_of d (heard_by_devices f sent))
@@ -455,20 +393,10 @@ pub bills_told : (setup : Setup) (d : DeviceSetup) (past : List Entry) (sent : L
     got d.kind d.addr form.Credits sent (heard_after setup past sent) ≡ Some (reply.credits c) → c ≡ bills_of (met d past)
 unfolding asks_of
 bills_told setup d past sent c sound own banking honest asks found =
-    let replies : Replies setup d past sent ReadBills (reply.credits (bills_of (met d past))) form.Credits = record {
-      sound = sound;
-      own = own;
-      no_poll = λ e. cc;
-      asks = asks;
-      replied = bills_replied d (met d past) banking;
-      fits = refl;
-      whole = five_kept (bill_events (met d past));
-      sayable = tt;
-      short = credits_short (bills_of (met d past)) (five_kept (bill_events (met d past)));
-    } in
     same_credits c (bills_of (met d past))
-    (got_any setup d past sent ReadBills (reply.credits (bills_of (met d past))) (reply.credits c) form.Credits replies honest
-    found)
+    (reply_told setup d past sent ReadBills _ _ form.Credits sound own honest (λ e. cc) asks
+    (bills_replied d (met d past) banking) refl (five_kept (bill_events (met d past))) tt
+    (credits_short (bills_of (met d past)) (five_kept (bill_events (met d past)))) found)
 
 -- the life count that a tap of a hopper shows
 pub told_life : (setup : Setup) (d : DeviceSetup) (past : List Entry) (sent : List ℕ) (count : ℕ) → IsSoundSetup setup →
@@ -479,21 +407,10 @@ unfolding asks_of
 told_life setup d past sent count sound own paying honest is =
     let parts = shown_life (option_and_then (asked_of d.addr) (message d.kind sent))
     (λ wanted. got d.kind d.addr wanted sent (heard_after setup past sent)) count is in
-    let replies : Replies setup d past sent GetLife (reply.life (life_count d.serial (start_of d.body) (met d past)))
-    form.Life = record {
-      sound = sound;
-      own = own;
-      no_poll = λ e. cc;
-      asks = parts.0;
-      replied = replied_life d (met d past) paying;
-      fits = refl;
-      whole = tt;
-      sayable = omega arith;
-      short = life_short (life_count d.serial (start_of d.body) (met d past));
-    } in
     same_life count (life_count d.serial (start_of d.body) (met d past))
-    (got_any setup d past sent GetLife (reply.life (life_count d.serial (start_of d.body) (met d past))) (reply.life count)
-    form.Life replies honest parts.1)
+    (reply_told setup d past sent GetLife _ _ form.Life sound own honest (λ e. cc) parts.0
+    (replied_life d (met d past) paying) refl tt (omega arith)
+    (life_short (life_count d.serial (start_of d.body) (met d past))) parts.1)
 
 -- what a tap shows of a device that takes money, whatever money that is
 
@@ -520,56 +437,33 @@ pub events_told : (setup : Setup) (d : DeviceSetup) (past : List Entry) (sent : 
 unfolding asks_of
 events_told setup d past sent c sound own taking honest asks found =
     let told : Credits = credits_in (told_events d.body (met d past)) in
-    let replies : Replies setup d past sent (credits_request d.body) (reply.credits told) form.Credits = record {
-      sound = sound;
-      own = own;
-      no_poll = no_poll_request d.body;
-      asks = asks;
-      replied = replied_credits d (met d past) taking;
-      fits = refl;
-      whole = five_kept (told_events d.body (met d past));
-      sayable = tt;
-      short = credits_short told (five_kept (told_events d.body (met d past)));
-    } in
     same_credits c told
-    (got_any setup d past sent (credits_request d.body) (reply.credits told) (reply.credits c) form.Credits replies honest
-    found)
+    (reply_told setup d past sent (credits_request d.body) _ _ form.Credits sound own honest (no_poll_request d.body) asks
+    (replied_credits d (met d past) taking) refl (five_kept (told_events d.body (met d past))) tt
+    (credits_short told (five_kept (told_events d.body (met d past)))) found)
 
 pub masks_told : (setup : Setup) (d : DeviceSetup) (past : List Entry) (sent : List ℕ) (mask : ℕ) → IsSoundSetup setup →
     IsOf setup d → IsTaker d.body → IsHonestFault (pending past) sent → asks_at d.kind d.addr sent ≡ Some GetMask →
     got d.kind d.addr form.Mask sent (heard_after setup past sent) ≡ Some (reply.mask mask) → mask ≡ mask_of (met d past)
 unfolding asks_of
 masks_told setup d past sent mask sound own taking honest asks found =
-    let replies : Replies setup d past sent GetMask (reply.mask (mask_of (met d past))) form.Mask = record {
-      sound = sound;
-      own = own;
-      no_poll = λ e. cc;
-      asks = asks;
-      replied = replied_mask d (met d past) taking;
-      fits = refl;
-      whole = tt;
-      sayable = tt;
-      short = mask_short (mask_of (met d past));
-    } in
     same_mask mask (mask_of (met d past))
-    (got_any setup d past sent GetMask (reply.mask (mask_of (met d past))) (reply.mask mask) form.Mask replies honest found)
+    (reply_told setup d past sent GetMask _ _ form.Mask sound own honest (λ e. cc) asks
+    (replied_mask d (met d past) taking) refl tt tt
+    (mask_short (mask_of (met d past))) found)
 
 -- what a device acknowledges it heard
 
-acted_under : (setup : Setup) (d : DeviceSetup) (past : List Entry) (sent : List ℕ) (q : Request) (y z : Reply)
-    (wanted : ReplyForm) (f : WireFault) → Replies setup d past sent q y wanted → DamagesHonestly f sent →
+acted_under : (setup : Setup) (d : DeviceSetup) (past : List Entry) (sent : List ℕ) (q : Request) (z : Reply)
+    (wanted : ReplyForm) (f : WireFault) → asks_of d sent ≡ Some q → DamagesHonestly f sent →
     got d.kind d.addr wanted sent (heard_under setup past f sent) ≡ Some z → asks_of d (heard_by_devices f sent) ≡ Some q
-acted_under setup d past sent q y z wanted fault.Clear is damage found = is.asks
-acted_under setup d past sent q y z wanted (fault.DevicesHear piece) is damage found =
+acted_under setup d past sent q z wanted fault.Clear asks damage found = asks
+acted_under setup d past sent q z wanted (fault.DevicesHear piece) asks damage found =
     absurd (none_some z (sym (none_read d.kind d.addr wanted [] (empty_message d.kind))
     ∙ ap (read_from d.kind d.addr wanted) (sym (damaged_answers setup past piece damage))
     ∙ sym (got_after d.kind d.addr wanted sent (answers setup past piece)) ∙ found))
-acted_under setup d past sent q y z wanted (fault.HostHears piece) is damage found = is.asks
-acted_under setup d past sent q y z wanted (fault.WholeHeard piece) is damage found = is.asks
-
-ack_short : length (reply_data reply.ack) ≤ 255
-unfolding reply_data
-ack_short = omega arith
+acted_under setup d past sent q z wanted (fault.HostHears piece) asks damage found = asks
+acted_under setup d past sent q z wanted (fault.WholeHeard piece) asks damage found = asks
 
 pub acked : (setup : Setup) (d : DeviceSetup) (past : List Entry) (sent : List ℕ) (q : Request) → IsSoundSetup setup →
     IsOf setup d → IsHonestFault (pending past) sent → (q ≡ AddressPoll → ⊥) → asks_at d.kind d.addr sent ≡ Some q →
@@ -578,18 +472,7 @@ pub acked : (setup : Setup) (d : DeviceSetup) (past : List Entry) (sent : List �
     asks_of d (heard_by_devices (pending past) sent) ≡ Some q
 unfolding asks_of
 acked setup d past sent q sound own honest no_poll asks replied found =
-    let replies : Replies setup d past sent q reply.ack form.Ack = record {
-      sound = sound;
-      own = own;
-      no_poll = no_poll;
-      asks = asks;
-      replied = replied;
-      fits = refl;
-      whole = tt;
-      sayable = tt;
-      short = ack_short;
-    } in
-    acted_under setup d past sent q reply.ack reply.ack form.Ack (pending past) replies
+    acted_under setup d past sent q reply.ack form.Ack (pending past) asks
     (honest_means (pending past) sent honest)
     (ap (got d.kind d.addr form.Ack sent) (sym (heard_is setup past sent)) ∙ found)
 
@@ -647,19 +530,10 @@ pub told_serial : (setup : Setup) (d : DeviceSetup) (past : List Entry) (sent : 
     got d.kind d.addr form.Serial sent (heard_after setup past sent) ≡ Some (reply.serial serial) → serial ≡ d.serial
 unfolding asks_of
 told_serial setup d past sent serial sound own honest asks found =
-    let replies : Replies setup d past sent SerialNumber (reply.serial d.serial) form.Serial = record {
-      sound = sound;
-      own = own;
-      no_poll = λ e. cc;
-      asks = asks;
-      replied = serial_replied d (met d past);
-      fits = refl;
-      whole = tt;
-      sayable = (found_in IsSound setup.devices d.addr d sound.devices own).0.serial;
-      short = serial_short d.serial;
-    } in
     same_serial serial d.serial
-    (got_any setup d past sent SerialNumber (reply.serial d.serial) (reply.serial serial) form.Serial replies honest found)
+    (reply_told setup d past sent SerialNumber _ _ form.Serial sound own honest (λ e. cc) asks
+    (serial_replied d (met d past)) refl tt ((found_in IsSound setup.devices d.addr d sound.devices own).0.serial)
+    (serial_short d.serial) found)
 
 status_short : (events remaining paid unpaid : ℕ) → length (reply_data (reply.status events remaining paid unpaid)) ≤ 255
 unfolding reply_data
@@ -679,16 +553,7 @@ unfolding asks_of
 told_status setup d past sent e r p u sound own paying honest asks found =
     let ms : List Met = met d past in
     let told : Reply = status_of d.serial ms in
-    let replies : Replies setup d past sent GetStatus told form.Status = record {
-      sound = sound;
-      own = own;
-      no_poll = λ e. cc;
-      asks = asks;
-      replied = replied_status d ms paying;
-      fits = refl;
-      whole = tt;
-      sayable = tt;
-      short = status_short (counter (payouts d.serial ms)) (remaining d.serial ms) (last_paid d.serial ms) (last_unpaid d.serial ms);
-    } in
     same_status e r p u (counter (payouts d.serial ms)) (remaining d.serial ms) (last_paid d.serial ms) (last_unpaid d.serial ms)
-    (got_any setup d past sent GetStatus told (reply.status e r p u) form.Status replies honest found)
+    (reply_told setup d past sent GetStatus _ _ form.Status sound own honest (λ e. cc) asks
+    (replied_status d ms paying) refl tt tt
+    (status_short (counter (payouts d.serial ms)) (remaining d.serial ms) (last_paid d.serial ms) (last_unpaid d.serial ms)) found)
