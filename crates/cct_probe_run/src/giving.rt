@@ -1,6 +1,7 @@
 //! What a bench does: one exchange of a plan, or one line.
-ghost use Rattle.std.specs.Prelude.{◌≡◌, ◌≤◌, ◌∷◌, [], List, false, true};
+ghost use Rattle.std.specs.Prelude.{◌≡◌, ◌≤◌, ◌∷◌, [], List, Result, false, true};
 ghost use Rattle.std.specs.List.{Contains};
+ghost use Rattle.cct_edge.specs.declared.fault.Failed.{Failed};
 ghost use Rattle.cct_model_wire.specs.declared.device.Setup.{Setup};
 ghost use Rattle.cct_probe_plan.specs.declared.plan.Trial.{Trial};
 ghost use Rattle.cct_probe_plan.specs.Saying.{IsSaid};
@@ -73,8 +74,7 @@ impl<L: Line, K: Sink> Bench<L, K> {
             Plays L.reads L.writes K.puts setup trials first self.new }
         ensures still { self.new.broken ≡ self.old.broken }
     {
-        self.out.put(line.as_slice())?;
-        Ok(())
+        put(&mut self.out, line.as_slice())
     }
 
     /// Says that a promise holds, where no premise that it rests on was reported as broken.
@@ -84,8 +84,7 @@ impl<L: Line, K: Sink> Bench<L, K> {
             Plays L.reads L.writes K.puts setup trials first self.old →
             Plays L.reads L.writes K.puts setup trials first self.new }
     {
-        self.out.put(holds_line(promise))?;
-        Ok(())
+        put(&mut self.out, holds_line(promise))
     }
 
     /// Writes the last exchange.
@@ -130,9 +129,16 @@ impl<L: Line, K: Sink> Bench<L, K> {
         self.broken = self.broken.and(premise);
         let (sent, heard) = (self.sent.as_slice(), self.heard.as_slice());
         push_wire(&mut line, addr, sent, heard);
-        self.out.put(line.as_slice())?;
-        Ok(())
+        put(&mut self.out, line.as_slice())
     }
+}
+
+/// Writes a line, by one put.
+fn put<K: Sink>(out: &mut K, line: &[u8]) -> Result<(), Stop>
+    ensures { (answer : Result (Unit {0}) Failed) × K.puts out.old line.now answer out.new }
+{
+    out.put(line)?;
+    Ok(())
 }
 
 /// How many coins are ordered by what is said.
