@@ -1,11 +1,10 @@
 //! The values of the bills of a bill acceptor.
 ghost use Rattle.cct_live_survey.specs.Asking.{Inquires};
 
-use crate::lines::{note_bills, put_bill};
+use crate::lines::{At, Draft};
 use cct_edge::{Failed, Sink};
 use cct_live_survey::{Room, ValueRequest, value_of};
-use cct_model_lines::{COIN_PLACES, CheckKind};
-use cct_text::TextLine;
+use cct_model_lines::COIN_PLACES;
 use cct_text_worth::bill_value;
 use cct_wire::Link;
 
@@ -26,42 +25,33 @@ enum Scaling {
 /// Writes the values of the bills of a bill acceptor, as far as it shows them: a place is asked for
 /// after the one before it was reported, and so is the scaling of another country.
 pub(crate) fn draft_bills<L: Link, K: Sink, N: Sink>(
-    kind: CheckKind,
-    addr: u8,
+    at: At,
     link: &mut L,
     room: &mut Room,
-    line: &mut TextLine,
-    out: &mut K,
-    notes: &mut N,
+    draft: &mut Draft<'_, '_, K, N>,
 ) -> Result<(), Failed>
     ensures inquires { (first : L) → Inquires L.gives first link.old →
         Inquires L.gives first link.new }
 {
     let mut scaling = Scaling::Unasked;
     for place in 1..=COIN_PLACES as u8 {
-        let Some(id) = bill_id_of(kind, addr, place, link, room) else {
-            return note_bills(addr, line, notes);
+        let Some(id) = bill_id_of(at, place, link, room) else {
+            return draft.note_bills(at.addr);
         };
         if id != NO_BILL {
-            scaling = scaling_for(id, scaling, kind, addr, link, room);
-            put_bill(addr, place, id, value_under(id, scaling), line, out, notes)?;
+            scaling = scaling_for(id, scaling, at, link, room);
+            draft.put_bill(at.addr, place, id, value_under(id, scaling))?;
         }
     }
     Ok(())
 }
 
 /// The identification of the bill of a place.
-fn bill_id_of<L: Link>(
-    kind: CheckKind,
-    addr: u8,
-    place: u8,
-    link: &mut L,
-    room: &mut Room,
-) -> Option<[u8; 7]>
+fn bill_id_of<L: Link>(at: At, place: u8, link: &mut L, room: &mut Room) -> Option<[u8; 7]>
     ensures inquires { (first : L) → Inquires L.gives first link.old →
         Inquires L.gives first link.new }
 {
-    let told = value_of(link, kind, addr, ValueRequest::BillId { place }, room)?;
+    let told = value_of(link, at.kind, at.addr, ValueRequest::BillId { place }, room)?;
     match *told.as_slice() {
         [a, b, c, d, e, f, g] => Some([a, b, c, d, e, f, g]),
         _ => None,
@@ -72,8 +62,7 @@ fn bill_id_of<L: Link>(
 fn scaling_for<L: Link>(
     id: [u8; 7],
     scaling: Scaling,
-    kind: CheckKind,
-    addr: u8,
+    at: At,
     link: &mut L,
     room: &mut Room,
 ) -> Scaling
@@ -84,24 +73,18 @@ fn scaling_for<L: Link>(
     match scaling {
         Scaling::Told { country, .. } if country == [first, second] => scaling,
         Scaling::Untold => Scaling::Untold,
-        _ => asked_scaling([first, second], kind, addr, link, room),
+        _ => asked_scaling([first, second], at, link, room),
     }
 }
 
 /// The scaling of a country's bills, as the acceptor shows it.
-fn asked_scaling<L: Link>(
-    country: [u8; 2],
-    kind: CheckKind,
-    addr: u8,
-    link: &mut L,
-    room: &mut Room,
-) -> Scaling
+fn asked_scaling<L: Link>(country: [u8; 2], at: At, link: &mut L, room: &mut Room) -> Scaling
     ensures inquires { (first : L) → Inquires L.gives first link.old →
         Inquires L.gives first link.new }
 {
     let [first, second] = country;
     let request = ValueRequest::Scaling { first, second };
-    let Some(told) = value_of(link, kind, addr, request, room) else {
+    let Some(told) = value_of(link, at.kind, at.addr, request, room) else {
         return Scaling::Untold;
     };
     match *told.as_slice() {

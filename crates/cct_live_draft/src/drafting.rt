@@ -4,14 +4,11 @@ ghost use Rattle.cct_live_survey.specs.Asking.{Inquires};
 
 use crate::bills::draft_bills;
 use crate::hoppers::draft_hopper;
-use crate::lines::{
-    note_address, note_category, note_silent, put_acceptor, put_begin, put_bills, put_coin,
-};
+use crate::lines::{At, Draft};
 use crate::search::{addresses_heard, check_at, is_tried, tried};
 use cct_edge::{Failed, Sink};
 use cct_live_survey::{Room, TRIES, category_of, coin_id_of, serial_of};
-use cct_model_lines::{COIN_PLACES, CheckKind, DeviceSet, Family};
-use cct_text::TextLine;
+use cct_model_lines::{COIN_PLACES, DeviceSet, Family};
 use cct_wire::Link;
 
 /// What was heard while a setup was drafted.
@@ -48,10 +45,10 @@ pub fn draft<L: Link, K: Sink, N: Sink>(
     ensures inquires { Inquires L.gives link.old link.new }
 {
     let mut room = Room::new();
-    let mut line = TextLine::new();
+    let mut draft = Draft::new(out, notes);
     let heard = addresses_heard(link, &mut room);
-    draft_all(&heard, link, &mut room, &mut line, out, notes)?;
-    put_begin(&mut line, out)?;
+    draft_all(&heard, link, &mut room, &mut draft)?;
+    draft.put_begin()?;
     if room.is_silent {
         Ok(Drafted::Dead)
     } else {
@@ -64,9 +61,7 @@ fn draft_all<L: Link, K: Sink, N: Sink>(
     heard: &DeviceSet,
     link: &mut L,
     room: &mut Room,
-    line: &mut TextLine,
-    out: &mut K,
-    notes: &mut N,
+    draft: &mut Draft<'_, '_, K, N>,
 ) -> Result<(), Failed>
     ensures inquires { (first : L) → Inquires L.gives first link.old →
         Inquires L.gives first link.new }
@@ -74,8 +69,8 @@ fn draft_all<L: Link, K: Sink, N: Sink>(
     let many = tried(heard, 255);
     for addr in 2..=255 {
         if is_tried(heard, addr) {
-            note_address(tried(heard, addr), many, line, notes)?;
-            draft_address(addr, heard.has(addr), link, room, line, out, notes)?;
+            draft.note_address(tried(heard, addr), many)?;
+            draft_address(addr, heard.has(addr), link, room, draft)?;
         }
     }
     Ok(())
@@ -87,71 +82,61 @@ fn draft_address<L: Link, K: Sink, N: Sink>(
     was_heard: bool,
     link: &mut L,
     room: &mut Room,
-    line: &mut TextLine,
-    out: &mut K,
-    notes: &mut N,
+    draft: &mut Draft<'_, '_, K, N>,
 ) -> Result<(), Failed>
     ensures inquires { (first : L) → Inquires L.gives first link.old →
         Inquires L.gives first link.new }
 {
     match check_at(link, addr, was_heard, room) {
-        Some(kind) => draft_device(kind, addr, link, room, line, out, notes),
-        None if was_heard => note_silent(addr, line, notes),
+        Some(kind) => draft_device(At { kind, addr }, link, room, draft),
+        None if was_heard => draft.note_silent(addr),
         None => Ok(()),
     }
 }
 
 /// Writes the lines of a device.
 fn draft_device<L: Link, K: Sink, N: Sink>(
-    kind: CheckKind,
-    addr: u8,
+    at: At,
     link: &mut L,
     room: &mut Room,
-    line: &mut TextLine,
-    out: &mut K,
-    notes: &mut N,
+    draft: &mut Draft<'_, '_, K, N>,
 ) -> Result<(), Failed>
     ensures inquires { (first : L) → Inquires L.gives first link.old →
         Inquires L.gives first link.new }
 {
-    let category = category_of(link, kind, addr, TRIES, room);
-    let serial = serial_of(link, kind, addr, TRIES, room);
+    let category = category_of(link, at.kind, at.addr, TRIES, room);
+    let serial = serial_of(link, at.kind, at.addr, TRIES, room);
     let family = match &category {
         Some(category) => category.family(),
         None => None,
     };
     match (family, serial) {
         (Some(Family::Acceptor), Some(serial)) => {
-            put_acceptor(kind, addr, serial, line, out)?;
-            draft_coins(kind, addr, link, room, line, out, notes)
+            draft.put_acceptor(at, serial)?;
+            draft_coins(at, link, room, draft)
         }
-        (Some(Family::Hopper), Some(serial)) => {
-            draft_hopper(kind, addr, serial, link, room, line, out, notes)
-        }
+        (Some(Family::Hopper), Some(serial)) => draft_hopper(at, serial, link, room, draft),
         (Some(Family::Bill), Some(serial)) => {
-            put_bills(kind, addr, serial, line, out)?;
-            draft_bills(kind, addr, link, room, line, out, notes)
+            draft.put_bills(at, serial)?;
+            draft_bills(at, link, room, draft)
         }
-        _ => note_category(addr, &category, line, notes),
+        _ => draft.note_category(at.addr, &category),
     }
 }
 
 /// Writes the values of the coins of an acceptor.
 fn draft_coins<L: Link, K: Sink, N: Sink>(
-    kind: CheckKind,
-    addr: u8,
+    at: At,
     link: &mut L,
     room: &mut Room,
-    line: &mut TextLine,
-    out: &mut K,
-    notes: &mut N,
+    draft: &mut Draft<'_, '_, K, N>,
 ) -> Result<(), Failed>
     ensures inquires { (first : L) → Inquires L.gives first link.old →
         Inquires L.gives first link.new }
 {
     for place in 1..=COIN_PLACES as u8 {
-        if let Some(id) = coin_id_of(link, kind, addr, place, TRIES, room) {
-            put_coin(addr, place, id, line, out, notes)?;
+        if let Some(id) = coin_id_of(link, at.kind, at.addr, place, TRIES, room) {
+            draft.put_coin(at.addr, place, id)?;
         }
     }
     Ok(())

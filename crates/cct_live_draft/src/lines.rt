@@ -7,146 +7,218 @@ use cct_model_lines::CheckKind;
 use cct_text::TextLine;
 use cct_text_worth::value_told;
 
-/// `acceptor A CHECK SERIAL 0`
-pub(crate) fn put_acceptor<K: Sink>(
-    kind: CheckKind,
-    addr: u8,
-    serial: u32,
-    line: &mut TextLine,
-    out: &mut K,
-) -> Result<(), Failed> {
-    put_counting(b"acceptor ", kind, addr, serial, line, out)
+/// A device by its address, and the check of its messages.
+#[derive(Clone, Copy)]
+pub(crate) struct At {
+    pub(crate) kind: CheckKind,
+    pub(crate) addr: u8,
 }
 
-/// `bills A CHECK SERIAL 0`
-pub(crate) fn put_bills<K: Sink>(
-    kind: CheckKind,
-    addr: u8,
-    serial: u32,
-    line: &mut TextLine,
-    out: &mut K,
-) -> Result<(), Failed> {
-    put_counting(b"bills ", kind, addr, serial, line, out)
+/// The lines of a setup go to one sink, and the notes on it to another, a line each.
+#[derive(Drop)]
+pub(crate) struct Draft<'o, 'n, K, N> {
+    line: TextLine,
+    out: &'o mut K,
+    notes: &'n mut N,
 }
 
-/// The line of a device with an accept counter, at 0.
-fn put_counting<K: Sink>(
-    word: &[u8],
-    kind: CheckKind,
-    addr: u8,
-    serial: u32,
-    line: &mut TextLine,
-    out: &mut K,
-) -> Result<(), Failed>
-    requires { length word.now ≤ 20 }
+impl<'o, 'n, K: Sink, N: Sink> Draft<'o, 'n, K, N> {
+    /// Nothing is written.
+    pub(crate) fn new(out: &'o mut K, notes: &'n mut N) -> Draft<'o, 'n, K, N> {
+        Draft {
+            line: TextLine::new(),
+            out,
+            notes,
+        }
+    }
+
+    /// `acceptor A CHECK SERIAL 0`
+    pub(crate) fn put_acceptor(&mut self, at: At, serial: u32) -> Result<(), Failed> {
+        self.put_counting(b"acceptor ", at, serial)
+    }
+
+    /// `bills A CHECK SERIAL 0`
+    pub(crate) fn put_bills(&mut self, at: At, serial: u32) -> Result<(), Failed> {
+        self.put_counting(b"bills ", at, serial)
+    }
+
+    /// The line of a device with an accept counter, at 0.
+    fn put_counting(&mut self, word: &[u8], at: At, serial: u32) -> Result<(), Failed>
+        requires { length word.now ≤ 20 }
+    {
+        begin_device(word, at, serial, &mut self.line);
+        self.line.push(b" 0\n");
+        self.out.put(self.line.as_slice())
+    }
+
+    /// `hopper A CHECK SERIAL 0 VALUE`: a value of 0 is one that isn't known.
+    pub(crate) fn put_hopper(&mut self, at: At, serial: u32, value: u32) -> Result<(), Failed> {
+        begin_device(b"hopper ", at, serial, &mut self.line);
+        self.line.push(b" 0 ");
+        self.line.push_number(u64::from(value));
+        self.line.push(b"\n");
+        self.out.put(self.line.as_slice())
+    }
+
+    /// `value A PLACE VALUE ID`, where the identification shows the value and a setup line can
+    /// spell it; else a note, but for a place without a coin.
+    pub(crate) fn put_coin(&mut self, addr: u8, place: u8, id: [u8; 6]) -> Result<(), Failed> {
+        if id == NO_COIN {
+            return Ok(());
+        }
+        match value_told(id) {
+            Some(value) if is_printing(id) => self.put_value(addr, place, value, id),
+            _ => self.note_value(addr, place, &id),
+        }
+    }
+
+    /// `value A PLACE VALUE ID`, where the value of a bill is sure and a setup line can spell the
+    /// first six characters of its identification, its country and its figures; else a note.
+    pub(crate) fn put_bill(
+        &mut self,
+        addr: u8,
+        place: u8,
+        id: [u8; 7],
+        value: Option<u32>,
+    ) -> Result<(), Failed> {
+        let [a, b, c, d, e, f, _] = id;
+        let front = [a, b, c, d, e, f];
+        match value {
+            Some(value) if is_printing(front) => self.put_value(addr, place, value, front),
+            _ => self.note_value(addr, place, &id),
+        }
+    }
+
+    /// `value A PLACE VALUE ID`
+    fn put_value(&mut self, addr: u8, place: u8, value: u32, id: [u8; 6]) -> Result<(), Failed> {
+        begin_value(addr, place, &mut self.line);
+        self.line.push(b" ");
+        self.line.push_number(u64::from(value));
+        self.line.push(b" ");
+        self.line.push(id.as_slice());
+        self.line.push(b"\n");
+        self.out.put(self.line.as_slice())
+    }
+
+    /// Notes that an identification shows no value.
+    fn note_value(&mut self, addr: u8, place: u8, id: &[u8]) -> Result<(), Failed>
+        requires { length id.now ≤ 10 }
+    {
+        begin_value(addr, place, &mut self.line);
+        self.line.push(b": ");
+        push_shown(id, &mut self.line);
+        self.line.push(b" tells no value\n");
+        self.notes.put(self.line.as_slice())
+    }
+
+    /// `begin`
+    pub(crate) fn put_begin(&mut self) -> Result<(), Failed> {
+        self.line.clear();
+        self.line.push(b"begin\n");
+        self.out.put(self.line.as_slice())
+    }
+
+    /// Notes that the value of a hopper's coins is to be written.
+    pub(crate) fn note_hopper(&mut self, addr: u8) -> Result<(), Failed> {
+        self.note(
+            addr,
+            b"hopper ",
+            b": write the value of its coins for the last 0\n",
+        )
+    }
+
+    /// Notes that a hopper has several coins, which a setup can't say.
+    pub(crate) fn note_several(&mut self, addr: u8) -> Result<(), Failed> {
+        self.note(
+            addr,
+            b"hopper ",
+            b": it has several coins, write the value of the one that it pays for the last 0\n",
+        )
+    }
+
+    /// Notes how far the search is: `address 7 of 24`.
+    pub(crate) fn note_address(&mut self, number: u32, many: u32) -> Result<(), Failed> {
+        self.line.clear();
+        self.line.push(b"address ");
+        self.line.push_number(u64::from(number));
+        self.line.push(b" of ");
+        self.line.push_number(u64::from(many));
+        self.line.push(b"\n");
+        self.notes.put(self.line.as_slice())
+    }
+
+    /// Notes that the values of the other bills of a bill acceptor are to be written.
+    pub(crate) fn note_bills(&mut self, addr: u8) -> Result<(), Failed> {
+        self.note(
+            addr,
+            b"bills ",
+            b": write a value line for each other bill\n",
+        )
+    }
+
+    /// Notes that an address was heard, and that nobody acknowledges a poll there.
+    pub(crate) fn note_silent(&mut self, addr: u8) -> Result<(), Failed> {
+        self.note(
+            addr,
+            b"device ",
+            b": it answers the address poll, and no other\n",
+        )
+    }
+
+    /// Notes something of an address.
+    fn note(&mut self, addr: u8, word: &[u8], text: &[u8]) -> Result<(), Failed>
+        requires word { length word.now ≤ 20 }
+        requires text { length text.now ≤ 100 }
+    {
+        self.line.clear();
+        self.line.push(word);
+        self.line.push_byte(addr);
+        self.line.push(text);
+        self.notes.put(self.line.as_slice())
+    }
+
+    /// Notes that a device is left out, with its category.
+    pub(crate) fn note_category(
+        &mut self,
+        addr: u8,
+        category: &Option<Category>,
+    ) -> Result<(), Failed> {
+        self.line.clear();
+        self.line.push(b"device ");
+        self.line.push_byte(addr);
+        push_reason(category, &mut self.line);
+        self.notes.put(self.line.as_slice())
+    }
+}
+
+/// Why a device is left out, by its category.
+fn push_reason(category: &Option<Category>, line: &mut TextLine)
+    requires { length line.old ≤ 20 }
 {
-    begin_device(word, kind, addr, serial, line);
-    line.push(b" 0\n");
-    out.put(line.as_slice())
-}
-
-/// `hopper A CHECK SERIAL 0 VALUE`: a value of 0 is one that isn't known.
-pub(crate) fn put_hopper<K: Sink>(
-    kind: CheckKind,
-    addr: u8,
-    serial: u32,
-    value: u32,
-    line: &mut TextLine,
-    out: &mut K,
-) -> Result<(), Failed> {
-    begin_device(b"hopper ", kind, addr, serial, line);
-    line.push(b" 0 ");
-    line.push_number(u64::from(value));
-    line.push(b"\n");
-    out.put(line.as_slice())
+    match category {
+        Some(category) if category.family().is_some() => line.push(b" tells no serial number\n"),
+        Some(category) => {
+            line.push(b" is left out: its category is ");
+            push_shown(category.as_slice(), line);
+            line.push(b"\n");
+        }
+        None => line.push(b" tells no category\n"),
+    }
 }
 
 /// The line of a device up to its serial number.
-fn begin_device(word: &[u8], kind: CheckKind, addr: u8, serial: u32, line: &mut TextLine)
+fn begin_device(word: &[u8], at: At, serial: u32, line: &mut TextLine)
     requires { length word.now ≤ 20 }
     ensures { length line.new ≤ 60 }
 {
     line.clear();
     line.push(word);
-    line.push_byte(addr);
-    line.push(match kind {
+    line.push_byte(at.addr);
+    line.push(match at.kind {
         CheckKind::Simple => b" simple ",
         CheckKind::Crc => b" crc ",
     });
     line.push_number(u64::from(serial));
-}
-
-/// `value A PLACE VALUE ID`, where the identification shows the value and a setup line can spell
-/// it; else a note, but for a place without a coin.
-pub(crate) fn put_coin<K: Sink, N: Sink>(
-    addr: u8,
-    place: u8,
-    id: [u8; 6],
-    line: &mut TextLine,
-    out: &mut K,
-    notes: &mut N,
-) -> Result<(), Failed> {
-    if id == NO_COIN {
-        return Ok(());
-    }
-    match value_told(id) {
-        Some(value) if is_printing(id) => put_value(addr, place, value, id, line, out),
-        _ => note_value(addr, place, &id, line, notes),
-    }
-}
-
-/// `value A PLACE VALUE ID`, where the value of a bill is sure and a setup line can spell the first
-/// six characters of its identification, its country and its figures; else a note.
-pub(crate) fn put_bill<K: Sink, N: Sink>(
-    addr: u8,
-    place: u8,
-    id: [u8; 7],
-    value: Option<u32>,
-    line: &mut TextLine,
-    out: &mut K,
-    notes: &mut N,
-) -> Result<(), Failed> {
-    let [a, b, c, d, e, f, _] = id;
-    let front = [a, b, c, d, e, f];
-    match value {
-        Some(value) if is_printing(front) => put_value(addr, place, value, front, line, out),
-        _ => note_value(addr, place, &id, line, notes),
-    }
-}
-
-/// `value A PLACE VALUE ID`
-fn put_value<K: Sink>(
-    addr: u8,
-    place: u8,
-    value: u32,
-    id: [u8; 6],
-    line: &mut TextLine,
-    out: &mut K,
-) -> Result<(), Failed> {
-    begin_value(addr, place, line);
-    line.push(b" ");
-    line.push_number(u64::from(value));
-    line.push(b" ");
-    line.push(id.as_slice());
-    line.push(b"\n");
-    out.put(line.as_slice())
-}
-
-/// Notes that an identification shows no value.
-fn note_value<N: Sink>(
-    addr: u8,
-    place: u8,
-    id: &[u8],
-    line: &mut TextLine,
-    notes: &mut N,
-) -> Result<(), Failed>
-    requires { length id.now ≤ 10 }
-{
-    begin_value(addr, place, line);
-    line.push(b": ");
-    push_shown(id, line);
-    line.push(b" tells no value\n");
-    notes.put(line.as_slice())
 }
 
 /// The line of a place up to its number.
@@ -163,127 +235,4 @@ fn begin_value(addr: u8, place: u8, line: &mut TextLine)
 /// Whether a setup line can spell an identification.
 fn is_printing(id: [u8; 6]) -> bool {
     id.iter().all(|byte| *byte >= 0x21 && *byte <= 0x7e)
-}
-
-/// `begin`
-pub(crate) fn put_begin<K: Sink>(line: &mut TextLine, out: &mut K) -> Result<(), Failed> {
-    line.clear();
-    line.push(b"begin\n");
-    out.put(line.as_slice())
-}
-
-/// Notes that the value of a hopper's coins is to be written.
-pub(crate) fn note_hopper<N: Sink>(
-    addr: u8,
-    line: &mut TextLine,
-    notes: &mut N,
-) -> Result<(), Failed> {
-    note(
-        addr,
-        b"hopper ",
-        b": write the value of its coins for the last 0\n",
-        line,
-        notes,
-    )
-}
-
-/// Notes that a hopper has several coins, which a setup can't say.
-pub(crate) fn note_several<N: Sink>(
-    addr: u8,
-    line: &mut TextLine,
-    notes: &mut N,
-) -> Result<(), Failed> {
-    note(
-        addr,
-        b"hopper ",
-        b": it has several coins, write the value of the one that it pays for the last 0\n",
-        line,
-        notes,
-    )
-}
-
-/// Notes how far the search is: `address 7 of 24`.
-pub(crate) fn note_address<N: Sink>(
-    number: u32,
-    many: u32,
-    line: &mut TextLine,
-    notes: &mut N,
-) -> Result<(), Failed> {
-    line.clear();
-    line.push(b"address ");
-    line.push_number(u64::from(number));
-    line.push(b" of ");
-    line.push_number(u64::from(many));
-    line.push(b"\n");
-    notes.put(line.as_slice())
-}
-
-/// Notes that the values of the other bills of a bill acceptor are to be written.
-pub(crate) fn note_bills<N: Sink>(
-    addr: u8,
-    line: &mut TextLine,
-    notes: &mut N,
-) -> Result<(), Failed> {
-    note(
-        addr,
-        b"bills ",
-        b": write a value line for each other bill\n",
-        line,
-        notes,
-    )
-}
-
-/// Notes that an address was heard, and that nobody acknowledges a poll there.
-pub(crate) fn note_silent<N: Sink>(
-    addr: u8,
-    line: &mut TextLine,
-    notes: &mut N,
-) -> Result<(), Failed> {
-    note(
-        addr,
-        b"device ",
-        b": it answers the address poll, and no other\n",
-        line,
-        notes,
-    )
-}
-
-/// Notes something of an address.
-fn note<N: Sink>(
-    addr: u8,
-    word: &[u8],
-    text: &[u8],
-    line: &mut TextLine,
-    notes: &mut N,
-) -> Result<(), Failed>
-    requires word { length word.now ≤ 20 }
-    requires text { length text.now ≤ 100 }
-{
-    line.clear();
-    line.push(word);
-    line.push_byte(addr);
-    line.push(text);
-    notes.put(line.as_slice())
-}
-
-/// Notes that a device is left out, with its category.
-pub(crate) fn note_category<N: Sink>(
-    addr: u8,
-    category: &Option<Category>,
-    line: &mut TextLine,
-    notes: &mut N,
-) -> Result<(), Failed> {
-    line.clear();
-    line.push(b"device ");
-    line.push_byte(addr);
-    match category {
-        Some(category) if category.family().is_some() => line.push(b" tells no serial number\n"),
-        Some(category) => {
-            line.push(b" is left out: its category is ");
-            push_shown(category.as_slice(), line);
-            line.push(b"\n");
-        }
-        None => line.push(b" tells no category\n"),
-    }
-    notes.put(line.as_slice())
 }

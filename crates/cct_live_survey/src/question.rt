@@ -13,7 +13,7 @@ ghost use Rattle.cct_live_survey.specs.Asking.{serial_told};
 use crate::category::Category;
 use crate::room::Room;
 use cct_model_wire::{BROADCAST, CheckKind, Reply, ReplyForm, Request};
-use cct_msg::{encode_request, wanted_reply};
+use cct_msg::encode_request;
 use cct_wire::{Link, bare_after_echo};
 
 /// How often a question is asked at most.
@@ -61,14 +61,7 @@ fn is_answered<L: Link>(
         room.new.heard.items) }
 {
     room.exchange(link);
-    wanted_reply(
-        kind,
-        addr,
-        form,
-        room.sent.as_slice(),
-        room.heard.as_slice(),
-    )
-    .is_some()
+    room.reply(kind, addr, form).is_some()
 }
 
 /// The serial number that the device at an address gives under a check, asked so many times at
@@ -96,13 +89,7 @@ pub fn serial_of<L: Link>(
         tries,
         room,
     );
-    match wanted_reply(
-        kind,
-        addr,
-        ReplyForm::Serial,
-        room.sent.as_slice(),
-        room.heard.as_slice(),
-    ) {
+    match room.reply(kind, addr, ReplyForm::Serial) {
         Some(Reply::Serial { serial }) => Some(serial),
         _ => None,
     }
@@ -132,13 +119,7 @@ pub fn category_of<L: Link>(
         tries,
         room,
     );
-    match wanted_reply(
-        kind,
-        addr,
-        ReplyForm::Text,
-        room.sent.as_slice(),
-        room.heard.as_slice(),
-    ) {
+    match room.reply(kind, addr, ReplyForm::Text) {
         Some(Reply::Text { text }) => Some(Category::of(text)),
         _ => None,
     }
@@ -170,13 +151,7 @@ pub fn coin_id_of<L: Link>(
         tries,
         room,
     );
-    match wanted_reply(
-        kind,
-        addr,
-        ReplyForm::CoinId,
-        room.sent.as_slice(),
-        room.heard.as_slice(),
-    ) {
+    match room.reply(kind, addr, ReplyForm::CoinId) {
         Some(Reply::CoinId { id }) => Some(id),
         _ => None,
     }
@@ -206,14 +181,7 @@ pub fn is_there<L: Link>(
         tries,
         room,
     );
-    wanted_reply(
-        kind,
-        addr,
-        ReplyForm::Ack,
-        room.sent.as_slice(),
-        room.heard.as_slice(),
-    )
-    .is_some()
+    room.reply(kind, addr, ReplyForm::Ack).is_some()
 }
 
 /// Polls all devices under a check until the echo is good, three times at most. The addresses that

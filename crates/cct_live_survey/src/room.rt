@@ -1,9 +1,13 @@
 //! The room for the exchanges of a survey.
 ghost use Rattle.std.specs.Prelude.{◌≡◌, ◌&&◌};
+ghost use Rattle.std.specs.Option.{option_map};
+ghost use Rattle.cct_model_wire.specs.Exchange.{got};
+ghost use Rattle.cct_model_wire.specs.Reply.{reply_shown};
 ghost use Rattle.cct_live_survey.specs.Room.{is_bare};
 
 use arrayvec::ArrayVec;
-use cct_model_wire::{MOST_HEARD, MOST_SENT};
+use cct_model_wire::{CheckKind, MOST_HEARD, MOST_SENT, Reply, ReplyForm};
+use cct_msg::wanted_reply;
 use cct_wire::Link;
 
 /// What was sent last, and what was heard then.
@@ -34,6 +38,20 @@ impl Room {
     {
         link.exchange(self.sent.as_slice(), &mut self.heard);
         self.is_silent = self.is_silent && is_bare(self.sent.as_slice(), self.heard.as_slice());
+    }
+
+    /// The reply of an address in this form to what was sent, if that was heard.
+    pub(crate) fn reply(&self, kind: CheckKind, addr: u8, form: ReplyForm) -> Option<Reply<'_>>
+        ensures { option_map reply_shown result
+            ≡ got kind addr form self.now.sent.items self.now.heard.items }
+    {
+        wanted_reply(
+            kind,
+            addr,
+            form,
+            self.sent.as_slice(),
+            self.heard.as_slice(),
+        )
     }
 }
 
