@@ -13,7 +13,7 @@ ghost use Rattle.cct_audit_taps.specs.Deeds.{request_since, rest_on, rise_fits, 
 ghost use Rattle.cct_audit_taps.specs.Deeds.{serial_on, shut_on};
 
 use crate::deeds::Deed;
-use crate::said::{Premise, Said};
+use crate::said::{Premise, Said, broken};
 use crate::signs::alone_broken;
 use arrayvec::ArrayVec;
 use cct_epoch::distance;
@@ -331,12 +331,7 @@ fn tell_serial(
 {
     if let Some(first) = known {
         if serial != first.serial {
-            report.push(Said::Broken {
-                addr,
-                premise: Premise::Serial,
-                first: first.number,
-                last: number,
-            });
+            report.push(broken(addr, Premise::Serial, first.number, number));
         }
     }
 }
@@ -347,12 +342,7 @@ fn tell_enable(addr: u8, number: u32, shut: Option<u32>, report: &mut ArrayVec<S
     ensures { report.new.items ≡ report.old.items ++ broken_enable addr number shut }
 {
     if let Some(first) = shut {
-        report.push(Said::Broken {
-            addr,
-            premise: Premise::Enable,
-            first,
-            last: number,
-        });
+        report.push(broken(addr, Premise::Enable, first, number));
     }
 }
 
@@ -370,12 +360,7 @@ fn tell_life(
 {
     if let Some(before) = known {
         if before.most < COUNTS && !rise_fits(fallen_between(before.count, count), &before) {
-            report.push(Said::Broken {
-                addr,
-                premise: Premise::Life,
-                first: before.number,
-                last: number,
-            });
+            report.push(broken(addr, Premise::Life, before.number, number));
         }
     }
 }
@@ -409,12 +394,7 @@ fn tell_counter(
 {
     if let Some(before) = known {
         if !counter_fits(counter, &before) {
-            report.push(Said::Broken {
-                addr,
-                premise: Premise::Counter,
-                first: before.number,
-                last: number,
-            });
+            report.push(broken(addr, Premise::Counter, before.number, number));
         }
     }
 }

@@ -1,5 +1,6 @@
 //! What a monitor says of a watched device.
 ghost use Rattle.std.specs.Prelude.{◌≡◌};
+ghost use Rattle.cct_audit_taps.specs.declared.said.Said.TheVariants.{Broken};
 
 use cct_model::Coins;
 
@@ -70,6 +71,18 @@ pub enum Said {
         first: u32,
         last: u32,
     },
+}
+
+/// That the taps with these numbers show a premise about the device at an address broken.
+pub(crate) fn broken(addr: u8, premise: Premise, first: u32, last: u32) -> Said
+    ensures { result ≡ Broken addr premise first last }
+{
+    Said::Broken {
+        addr,
+        premise,
+        first,
+        last,
+    }
 }
 
 impl Default for Said {

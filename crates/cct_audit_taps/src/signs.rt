@@ -16,7 +16,7 @@ ghost use Rattle.cct_audit_taps.specs.Taps.{asks_at, tap_of};
 
 use crate::asking::{asked_at, other_answers};
 use crate::money::Money;
-use crate::said::{Premise, Said};
+use crate::said::{Premise, Said, broken};
 use arrayvec::ArrayVec;
 use cct_model::{CheckKind, Credits, Pair, Reply, ReplyForm, Request};
 use cct_msg::wanted_reply;
@@ -217,12 +217,7 @@ pub fn tell_broken(
 pub(crate) fn alone_broken(addr: u8, number: u32) -> Said
     ensures { result ≡ Broken addr premise.Alone number number }
 {
-    Said::Broken {
-        addr,
-        premise: Premise::Alone,
-        first: number,
-        last: number,
-    }
+    broken(addr, Premise::Alone, number, number)
 }
 
 /// Reports a buffer that isn't empty though the event counter is 0.
@@ -232,12 +227,7 @@ fn tell_buffer(addr: u8, number: u32, credits: Credits, report: &mut ArrayVec<Sa
     ensures few { length report.new.items ≤ 1 }
 {
     if credits.counter == 0 && has_event(&credits.pairs) {
-        report.push(Said::Broken {
-            addr,
-            premise: Premise::Buffer,
-            first: number,
-            last: number,
-        });
+        report.push(broken(addr, Premise::Buffer, number, number));
     }
 }
 
@@ -254,12 +244,7 @@ fn tell_reset(
 {
     if let Some(before) = known {
         if before.is_fresh && has_credit(&credits.pairs) {
-            report.push(Said::Broken {
-                addr,
-                premise: Premise::Reset,
-                first: before.number,
-                last: number,
-            });
+            report.push(broken(addr, Premise::Reset, before.number, number));
         }
     }
 }
@@ -277,12 +262,7 @@ fn tell_mask(
 {
     if let Some(before) = known {
         if mask != 0 && mask != before.mask {
-            report.push(Said::Broken {
-                addr,
-                premise: Premise::Mask,
-                first: before.number,
-                last: number,
-            });
+            report.push(broken(addr, Premise::Mask, before.number, number));
         }
     }
 }
