@@ -63,20 +63,21 @@ by_tests true false true mask before in_window all one = none_both in_window ∙
 by_tests true false false mask before in_window all one =
     ap (λ b. (mask || before) && not b) (all refl) ∙ added mask before
 
+-- whether a mask was shown in a window that a tap ends, or not
+by_end : (s : Shown) (x : Span) (ended : Bool) →
+    list_any has_mask (cond ended (window x.last.after) (s ∷ x.last.after))
+    ≡ cond ended (list_any has_mask (window x.last.after)) (has_mask s || list_any has_mask x.last.after)
+by_end s x true = refl
+by_end s x false = refl
+
 -- a tap confirms a span that waits, by its mask
 pub confirms_is : (s : Shown) (x : Span) → confirms s x ≡ (has_mask s && waits x)
 confirms_is s x =
-    ap (λ b. (is_whole x && b) && not (is_whole x && list_any has_mask (window x.last.after))) (by_end (ends_window s || list_any ends_window x.last.after))
+    ap (λ b. (is_whole x && b) && not (is_whole x && list_any has_mask (window x.last.after))) (by_end s x (ends_window s || list_any ends_window x.last.after))
     ∙ by_tests (is_whole x) (ends_window s) (list_any ends_window x.last.after) (has_mask s)
     (list_any has_mask x.last.after) (list_any has_mask (window x.last.after))
     (λ open_yet. ap (list_any has_mask) (whole_window x.last.after open_yet)) (shows_one s)
     ∙ ap (λ b. has_mask s && (is_whole x && not b)) (sym (any_not_open x.last.after))
-  where
-    by_end : (ended : Bool) →
-        list_any has_mask (cond ended (window x.last.after) (s ∷ x.last.after))
-        ≡ cond ended (list_any has_mask (window x.last.after)) (has_mask s || list_any has_mask x.last.after)
-    by_end true = refl
-    by_end false = refl
 
 filter_same : (p q : Span → Bool) → ((x : Span) → p x ≡ q x) → (xs : List Span) → filter p xs ≡ filter q xs
 filter_same p q same [] = refl
@@ -166,16 +167,10 @@ later true false false false before in_window all is = sym (all refl) ∙ is
 
 pub stays_confirmed : (s : Shown) (x : Span) → is_confirmed x ≡ true → is_confirmed (goes_on s x) ≡ true
 stays_confirmed s x is =
-    ap (λ b. is_whole x && b) (by_end (ends_window s || list_any ends_window x.last.after))
+    ap (λ b. is_whole x && b) (by_end s x (ends_window s || list_any ends_window x.last.after))
     ∙ later (is_whole x) (ends_window s) (list_any ends_window x.last.after) (has_mask s)
     (list_any has_mask x.last.after) (list_any has_mask (window x.last.after))
     (λ open_yet. ap (list_any has_mask) (whole_window x.last.after open_yet)) is
-  where
-    by_end : (ended : Bool) →
-        list_any has_mask (cond ended (window x.last.after) (s ∷ x.last.after))
-        ≡ cond ended (list_any has_mask (window x.last.after)) (has_mask s || list_any has_mask x.last.after)
-    by_end true = refl
-    by_end false = refl
 
 -- a new one isn't confirmed yet
 pub new_unconfirmed : (s : Shown) (found : Option Reading) (number : ℕ) → filter is_confirmed (spans_by s found number) ≡ []

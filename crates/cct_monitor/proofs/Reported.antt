@@ -1,5 +1,5 @@
 -- Each span that is confirmed was said to be sure, among all that is said of the watched devices.
-use Rattle.std.proofs.Common.{◌≡◌, ◌⊎◌, inl, inr, ℕ, zero, suc, ◌<◌, ◌==◌, nat_le, not, Bool, true, false, cond, List, [], ◌∷◌, ◌++◌, map, filter, flat_map, length, get_or, reverse, refl, sym, ◌∙◌, subst, append-nil, All, Contains, zero-lt-suc, arith}
+use Rattle.std.proofs.Common.{◌≡◌, ◌⊎◌, inl, inr, ℕ, zero, suc, ◌<◌, ◌==◌, nat_le, not, Bool, true, false, cond, List, [], ◌∷◌, ◌++◌, map, filter, flat_map, length, get_or, reverse, refl, sym, ◌∙◌, subst, append-nil, All, Contains, zero-lt-suc, arith, ap}
 use Rattle.std.proofs.lemmas.Bool.{and_parts}
 use Rattle.std.proofs.lemmas.List.{reverse-append}
 use Rattle.std.proofs.lemmas.List.Elements.{All-append, All-cons, All-head, All-map, All-nil, All-tail, All-weaker, Contains-append_cases, Contains-append_left, Contains-append_right, Contains-push}
@@ -9,11 +9,10 @@ use Rattle.cct_audit_taps.specs.declared.shown.Shown.TheVariants.{Read, Masked, 
 use Rattle.cct_audit_taps.specs.declared.money.Money.{Money}
 use Rattle.cct_monitor.specs.declared.watched.Family.TheVariants.{Acceptor, QuietAcceptor}
 use Rattle.cct_monitor.specs.Confirmed.{confirms, has_mask, is_confirmed}
-use Rattle.cct_monitor.specs.Lives.{fell_at}
 use Rattle.cct_monitor.specs.Once.{all_quietly, all_said}
 use Rattle.cct_monitor.specs.Spans.{Span, goes_on, last_reading, quiet_at, quietly, refused, said_at, spans, spans_by, surely, turned, waits}
-use Rattle.cct_audit_taps.specs.Taps.{Tap, life_shown, quiet_shown, shown}
-use Rattle.cct_monitor.specs.Watches.{Came, Watch, all_told, by_address, from_begin, lives_of, looks_of, made_tap, made_watch, put_watch, said_by, said_of, said_of_all}
+use Rattle.cct_audit_taps.specs.Taps.{Tap, quiet_shown, shown}
+use Rattle.cct_monitor.specs.Watches.{Came, Watch, all_told, by_address, from_begin, made_tap, made_watch, put_watch, said_by, said_of, said_of_all}
 use Rattle.cct_monitor.proofs.Captures.{from_the_begin}
 use Rattle.cct_monitor.proofs.Confirmed.{confirms_is, new_unconfirmed}
 
@@ -159,14 +158,6 @@ in_by_address v (w ∷ ws) among = in_put v w (by_address ws) (by_place (head_or
     by_place (inl same) rest = subst (λ x. Contains (x ∷ by_address ws) v) (sym same) (is_first v (by_address ws))
     by_place (inr there) rest = is_later w v (by_address ws) (rest there)
 
-at_tap : (w : Watch) (t : Tap) (taps : List Tap) (x : Said) → w.family ≡ Acceptor →
-    Contains (said_at w.addr (shown w.kind w.addr t) (map (shown w.kind w.addr) taps)) x →
-    Contains (said_of t (from_begin taps w)) x
-at_tap w t taps x accepts there =
-    subst (λ fam. Contains (said_by fam t (from_begin taps w)) x) (sym accepts)
-    (subst (λ past. Contains (said_at w.addr (shown w.kind w.addr t) past) x)
-    (sym (append-nil (map (shown w.kind w.addr) taps))) there)
-
 in_accounts : (w : Watch) (t : Tap) (taps : List Tap) (x : Said) → Contains (said_of t (from_begin taps w)) x →
     (vs : List Watch) → Contains vs w → Contains (flat_map (said_of t) (map (from_begin taps) vs)) x
 in_accounts w t taps x now [] there = absurd (has_none w there)
@@ -181,29 +172,41 @@ in_accounts w t taps x now (v ∷ vs) there = by_place (head_or_rest v w vs ther
         (subst (λ u. Contains (said_of t (from_begin taps u)) x) (sym same) now)
     by_place (inr later) rest = Contains-append_right (said_of t (from_begin taps v)) others x (rest later)
 
--- what is said of an acceptor at these taps is said by a monitor that watches it
-pub told_of_one : (w : Watch) (ws : List Watch) (taps : List Tap) (x : Said) → w.family ≡ Acceptor → Contains ws w →
-    Contains (all_said w.addr (map (shown w.kind w.addr) taps)) x →
+-- what is said at taps is said by a monitor with a watch that says it at each of them
+of_one : {S : Type 0} (shows : Tap → S) (at : S → List S → List Said) (of_all : List S → List Said) (w : Watch)
+    (ws : List Watch) → of_all [] ≡ [] → ((s : S) (past : List S) → of_all (s ∷ past) ≡ of_all past ++ at s past) →
+    ((t : Tap) (taps : List Tap) → at (shows t) (map shows taps) ≡ said_of t (from_begin taps w)) → Contains ws w →
+    (taps : List Tap) (x : Said) → Contains (of_all (map shows taps)) x →
     Contains (all_told (map made_tap taps ++ map made_watch ws)) x
-told_of_one w ws [] x accepts among there = absurd (has_none x there)
-told_of_one w ws (t ∷ taps) x accepts among there =
-    by_place (told_of_one w ws taps x accepts among)
-    (Contains-append_cases (all_said w.addr (map (shown w.kind w.addr) taps))
-    (said_at w.addr (shown w.kind w.addr t) (map (shown w.kind w.addr) taps)) x there)
+of_one shows at of_all w ws none split says among [] x there =
+    absurd (has_none x (subst (λ all. Contains all x) none there))
+of_one shows at of_all w ws none split says among (t ∷ taps) x there =
+    by_place (of_one shows at of_all w ws none split says among taps x)
+    (Contains-append_cases (of_all (map shows taps)) (at (shows t) (map shows taps)) x
+    (subst (λ all. Contains all x) (split (shows t) (map shows taps)) there))
   where
     came : List Came
     came = map made_tap taps ++ map made_watch ws
 
-    by_place : (Contains (all_said w.addr (map (shown w.kind w.addr) taps)) x → Contains (all_told came) x) →
-        Contains (all_said w.addr (map (shown w.kind w.addr) taps)) x
-        ⊎ Contains (said_at w.addr (shown w.kind w.addr t) (map (shown w.kind w.addr) taps)) x →
+    by_place : (Contains (of_all (map shows taps)) x → Contains (all_told came) x) →
+        Contains (of_all (map shows taps)) x ⊎ Contains (at (shows t) (map shows taps)) x →
         Contains (all_told came ++ said_of_all t came) x
     by_place earlier (inl before) =
         Contains-append_left (all_told came) (said_of_all t came) x (earlier before)
     by_place earlier (inr now) =
         Contains-append_right (all_told came) (said_of_all t came) x
         (subst (λ accounts. Contains (flat_map (said_of t) accounts) x) (sym (from_the_begin ws taps))
-        (in_accounts w t taps x (at_tap w t taps x accepts now) (by_address ws) (in_by_address w ws among)))
+        (in_accounts w t taps x (subst (λ all. Contains all x) (says t taps) now) (by_address ws)
+        (in_by_address w ws among)))
+
+-- so it is of an acceptor
+pub told_of_one : (w : Watch) (ws : List Watch) (taps : List Tap) (x : Said) → w.family ≡ Acceptor → Contains ws w →
+    Contains (all_said w.addr (map (shown w.kind w.addr) taps)) x →
+    Contains (all_told (map made_tap taps ++ map made_watch ws)) x
+told_of_one w ws taps x accepts among there =
+    of_one (shown w.kind w.addr) (said_at w.addr) (all_said w.addr) w ws refl (λ s past. refl)
+    (λ t before. ap (said_at w.addr (shown w.kind w.addr t)) (sym (append-nil (map (shown w.kind w.addr) before)))
+    ∙ ap (λ fam. said_by fam t (from_begin before w)) (sym accepts)) among taps x there
 
 -- and the same of an acceptor that is watched for resets alone: each span is said at its last reading
 new_said : (addr : ℕ) (xs : List Span) → All (λ x. Contains (map (quietly addr) xs) (quietly addr x)) xs
@@ -229,34 +232,12 @@ quietly_said addr (s ∷ past) =
     (λ x there. Contains-append_left (all_quietly addr past) (quiet_at addr s past) (quietly addr x) there)
     (spans past) (quietly_said addr past)))
 
-quiet_at_tap : (money : Money) (w : Watch) (t : Tap) (taps : List Tap) (x : Said) → w.family ≡ QuietAcceptor money →
-    Contains (quiet_at w.addr (quiet_shown money w.kind w.addr t) (map (quiet_shown money w.kind w.addr) taps)) x →
-    Contains (said_of t (from_begin taps w)) x
-quiet_at_tap money w t taps x accepts there =
-    subst (λ fam. Contains (said_by fam t (from_begin taps w)) x) (sym accepts)
-    (subst (λ past. Contains (quiet_at w.addr (quiet_shown money w.kind w.addr t) past) x)
-    (sym (append-nil (map (quiet_shown money w.kind w.addr) taps))) there)
-
 pub quiet_of_one : (money : Money) (w : Watch) (ws : List Watch) (taps : List Tap) (x : Said) → w.family ≡ QuietAcceptor money →
     Contains ws w →
     Contains (all_quietly w.addr (map (quiet_shown money w.kind w.addr) taps)) x →
     Contains (all_told (map made_tap taps ++ map made_watch ws)) x
-quiet_of_one money w ws [] x accepts among there = absurd (has_none x there)
-quiet_of_one money w ws (t ∷ taps) x accepts among there =
-    by_place (quiet_of_one money w ws taps x accepts among)
-    (Contains-append_cases (all_quietly w.addr (map (quiet_shown money w.kind w.addr) taps))
-    (quiet_at w.addr (quiet_shown money w.kind w.addr t) (map (quiet_shown money w.kind w.addr) taps)) x there)
-  where
-    came : List Came
-    came = map made_tap taps ++ map made_watch ws
-
-    by_place : (Contains (all_quietly w.addr (map (quiet_shown money w.kind w.addr) taps)) x → Contains (all_told came) x) →
-        Contains (all_quietly w.addr (map (quiet_shown money w.kind w.addr) taps)) x
-        ⊎ Contains (quiet_at w.addr (quiet_shown money w.kind w.addr t) (map (quiet_shown money w.kind w.addr) taps)) x →
-        Contains (all_told came ++ said_of_all t came) x
-    by_place earlier (inl before) =
-        Contains-append_left (all_told came) (said_of_all t came) x (earlier before)
-    by_place earlier (inr now) =
-        Contains-append_right (all_told came) (said_of_all t came) x
-        (subst (λ accounts. Contains (flat_map (said_of t) accounts) x) (sym (from_the_begin ws taps))
-        (in_accounts w t taps x (quiet_at_tap money w t taps x accepts now) (by_address ws) (in_by_address w ws among)))
+quiet_of_one money w ws taps x accepts among there =
+    of_one (quiet_shown money w.kind w.addr) (quiet_at w.addr) (all_quietly w.addr) w ws refl (λ s past. refl)
+    (λ t before. ap (quiet_at w.addr (quiet_shown money w.kind w.addr t))
+    (sym (append-nil (map (quiet_shown money w.kind w.addr) before)))
+    ∙ ap (λ fam. said_by fam t (from_begin before w)) (sym accepts)) among taps x there
