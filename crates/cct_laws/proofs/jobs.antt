@@ -3,6 +3,7 @@ pub mod AskedAndAnswered
 pub mod AtDesk
 pub mod AwaitedRecords
 pub mod CountersRead
+pub mod EachBrought
 pub mod Ending
 pub mod EntriesOfStep
 pub mod GivenUp

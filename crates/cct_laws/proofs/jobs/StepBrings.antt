@@ -167,7 +167,7 @@ pub data IsOfDesk : Step → Entry → Type 0 where
   serves_all : (amount : ℕ) → IsOfDesk step.Serve (entry.Served amount)
   serves_short : (paid rest : ℕ) → IsOfDesk step.Serve (entry.Short paid rest)
 
--- an entry is of no job: it can be of what came to a device, or of the desk of the operator
+-- an entry is of no job, and reads no balance: it can be of what came to a device, or of the desk of the operator
 abbrev pub IsOfNoJob : Entry → Type 0
 IsOfNoJob (entry.Fault f) = ⊥
 IsOfNoJob (entry.Taken c) = ⊥
@@ -177,6 +177,7 @@ IsOfNoJob (entry.Forged addr) = ⊥
 IsOfNoJob (entry.Put r) = ⊥
 IsOfNoJob (entry.Kept r) = ⊥
 IsOfNoJob (entry.Ended addr end) = ⊥
+IsOfNoJob (entry.Balance told) = ⊥
 IsOfNoJob e = ⊤
 
 pub came_of_no_job : (d : DeviceSetup) (past : List Met) (s : Step) (e : Entry) (m : Met) (ls : List Line) →

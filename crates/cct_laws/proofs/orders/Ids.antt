@@ -21,7 +21,6 @@ use Rattle.cct_model.specs.Device.{IsSound}
 use Rattle.cct_model.specs.Exchange.{device_at}
 use Rattle.cct_model.specs.Money.{totals}
 use Rattle.cct_model.specs.Setup.{IsSoundSetup}
-use Rattle.cct_model.specs.History.{Met}
 use Rattle.cct_model.specs.Line.{Line, put, taken}
 use Rattle.cct_model.specs.Order.{order}
 use Rattle.cct_model.specs.Job.{job, with_line, epoch, puts, address_of, ident_requests}
@@ -36,8 +35,7 @@ use Rattle.cct_laws.specs.Law.{IsOf}
 use Rattle.cct_laws.specs.Recorded.{HasNoJob}
 use Rattle.cct_laws.proofs.setups.DeviceAt.{same_some, found_in}
 use Rattle.cct_model.proofs.Rows.{RowHolds, IsOwned, row_owned, after_next, told_no_id}
-use Rattle.cct_laws.proofs.jobs.AtDesk.{desk_apart}
-use Rattle.cct_laws.proofs.jobs.StepBrings.{Comes, takes_coin, leaves_coin, takes_bill, leaves_bill, leaves_alien, drops_coin, drops_none, jams, jams_none, is_reset, AtWork, row_after, wire_of, wire_end, record_end, poll_wire, poll_end, AtDevice, came, took, halted, idled, made_exchange, made_put, Selling, Brought, of_device, faulted, refused, began_scan, began_sale, nobody, polled, sold, balanced, of_desk, ended_short, lost_power, lost_in_put, lost_in_sale}
+use Rattle.cct_laws.proofs.jobs.StepBrings.{AtWork, row_after, wire_of, wire_end, record_end, poll_wire, poll_end, AtDevice, came, took, halted, idled, made_exchange, made_put, Selling, Brought, of_device, faulted, refused, began_scan, began_sale, nobody, polled, sold, balanced, of_desk, ended_short, lost_power, lost_in_put, lost_in_sale, IsOfNoJob, came_of_no_job, desk_of_no_job}
 use Rattle.cct_laws.proofs.money.FromRecordsAlone.{order_recorded, restart_frees}
 use Rattle.cct_laws.proofs.jobs.AwaitedRecords.{one_id, one_id_of_sale, one_after, here_waits, BeginsNone, device_waits_less, sale_waits_less}
 use Rattle.cct_laws.proofs.orders.UsedIds.{Unused, Grows, same_records, one_more, grows_owned, more_unused}
@@ -269,18 +267,11 @@ ids_sold setup past id price since selling ids = ids_less setup past (entry.Ende
     kept : List Entry
     kept = entry.Put (record_of.Sold id price) ∷ past
 
-came_ids : (setup : Setup) (past : List Entry) (d : DeviceSetup) (s : Step) (e : Entry) (m : Met) (ls : List Line) →
-    Comes d (met d past) s e m ls → Ids setup past → Ids setup (e ∷ past)
-came_ids setup past d s e m ls (takes_coin place accepting is) ids = ids_quiet setup past _ tt refl ids
-came_ids setup past d s e m ls (leaves_coin place accepting is) ids = ids_quiet setup past _ tt refl ids
-came_ids setup past d s e m ls (takes_bill place banking is) ids = ids_quiet setup past _ tt refl ids
-came_ids setup past d s e m ls (leaves_bill place banking is) ids = ids_quiet setup past _ tt refl ids
-came_ids setup past d s e m ls (leaves_alien accepting) ids = ids_quiet setup past _ tt refl ids
-came_ids setup past d s e m ls (drops_coin paying is) ids = ids_quiet setup past _ tt refl ids
-came_ids setup past d s e m ls (drops_none paying is) ids = ids_quiet setup past _ tt refl ids
-came_ids setup past d s e m ls (jams paying is) ids = ids_quiet setup past _ tt refl ids
-came_ids setup past d s e m ls (jams_none paying is) ids = ids_quiet setup past _ tt refl ids
-came_ids setup past d s e m ls is_reset ids = ids_quiet setup past _ tt refl ids
+ids_of_no_job : (setup : Setup) (past : List Entry) (e : Entry) → IsOfNoJob e → Ids setup past → Ids setup (e ∷ past)
+ids_of_no_job setup past (entry.Taken c) is ids = absurd is
+ids_of_no_job setup past (entry.Put r) is ids = absurd is
+ids_of_no_job setup past (entry.Kept r) is ids = absurd is
+ids_of_no_job setup past e is ids = ids_quiet setup past e tt refl ids
 
 took_ids : (capacity : ℕ) (setup : Setup) (past : List Entry) (c : Command) →
     refusal capacity setup past c ≡ None → Ids setup past → Ids setup (entry.Taken c ∷ past)
@@ -295,7 +286,8 @@ took_ids capacity setup past c passes ids = ids_quiet setup past (entry.Taken c)
 device_ids : (capacity : ℕ) (setup : Setup) (past : List Entry) (d : DeviceSetup) (s : Step)
     (news : List Entry) → IsSoundSetup setup → IsOf setup d → AtDevice capacity setup d past s news → Ids setup past →
     Ids setup (news ++ past)
-device_ids capacity setup past d _ _ sound own (came s e m ls comes) ids = came_ids setup past d s e m ls comes ids
+device_ids capacity setup past d _ _ sound own (came s e m ls comes) ids =
+    ids_of_no_job setup past e (came_of_no_job d (met d past) s e m ls comes) ids
 device_ids capacity setup past d _ _ sound own (took s c gives suited here is_free is_taken owed passes) ids =
     took_ids capacity setup past c passes ids
 device_ids capacity setup past d s news sound own (halted paying can) ids =
@@ -338,7 +330,7 @@ ids_step capacity setup past news s sound (sold id price since none selling) ids
 ids_step capacity setup past news s sound balanced ids =
     ids_quiet setup past (entry.Balance (totals setup past)) tt refl ids
 ids_step capacity setup past news s sound (of_desk _ e is) ids =
-    ids_quiet setup past e (desk_apart _ e is).begins_none ((desk_apart _ e is).no_record past) ids
+    ids_of_no_job setup past e (desk_of_no_job _ e is) ids
 ids_step capacity setup past news s sound (ended_short addr id count why paid rest small range was) ids =
     let refusal_told = entry.No (command.Pay addr id count) why ∷ past in
     ids_quiet setup refusal_told (entry.Short paid rest) tt refl

@@ -16,7 +16,6 @@ use Rattle.cct_model.specs.Line.{Line, exchange}
 use Rattle.cct_model.specs.Order.{order}
 use Rattle.cct_model.specs.Job.{job, sends, epoch, judged_in, noted_in}
 use Rattle.cct_model.specs.Rows.{done, rows_of}
-use Rattle.cct_model.specs.Scan.{poll_of}
 use Rattle.cct_model.specs.Legal.{Legal}
 use Rattle.cct_model.specs.Script.{IsInRange}
 use Rattle.cct_model.specs.Transcript.{pending, met, own, lines_of, heard_after, answers, doses_of, got_by, onto}
@@ -25,8 +24,8 @@ use Rattle.cct_laws.specs.Ids.{Ids}
 use Rattle.cct_laws.specs.DeviceJobs.{WorksAt}
 use Rattle.cct_laws.specs.Law.{IsOf, EachEntry, IsAnswered}
 use Rattle.cct_laws.proofs.jobs.AskedAndAnswered.{asked_at, undisturbed_at, undisturbed_accepting}
-use Rattle.cct_laws.proofs.jobs.AtDesk.{desk_apart}
-use Rattle.cct_laws.proofs.jobs.StepBrings.{AtDevice, came, took, halted, idled, made_exchange, made_put, row_after, wire_of, wire_end, record_end, poll_wire, poll_end, Brought, of_device, faulted, refused, began_scan, began_sale, nobody, polled, sold, balanced, of_desk, ended_short, lost_power, lost_in_put, lost_in_sale}
+use Rattle.cct_laws.proofs.jobs.EachBrought.{IsBeside, step_so}
+use Rattle.cct_laws.proofs.jobs.StepBrings.{AtDevice, came, took, halted, idled, made_exchange, made_put, row_after, wire_of, wire_end, record_end, Brought}
 use Rattle.cct_model.proofs.Doses.{AreDoses}
 use Rattle.cct_laws.proofs.wire.Exchanges.{heard_under, heard_is}
 use Rattle.cct_laws.proofs.wire.Echoes.{echo_off}
@@ -46,46 +45,19 @@ clear_echo setup past sent none = λ clear.
     clear)
     ∙ echo_off sent (answers setup past sent))
 
-echo_there : (capacity : ℕ) (setup : Setup) (d : DeviceSetup) (past news : List Entry) (s : Step) →
-    AtDevice capacity setup d past s news → EachEntry EchoFailsByFault past → EachEntry EchoFailsByFault (news ++ past)
-echo_there capacity setup d past _ _ (came s e m ls comes) before =
-    (((loose d (met d past) s e m ls comes).no_exchange d past).1, before)
-echo_there capacity setup d past _ _ (took s c gives suited here is_free is_taken is_owed lets) before = (tt, before)
-echo_there capacity setup d past _ _ (halted paying can) before = (tt, before)
-echo_there capacity setup d past _ _ (idled is_free) before = (tt, before)
-echo_there capacity setup d past _ _ (made_exchange c since q at_work is_row) before =
-    each_with_end EchoFailsByFault past d.addr (wire_of setup d past q) (wire_end setup d past c since q)
-    (clear_echo setup past (ask d.kind d.addr q)) (λ older end. tt) before
-echo_there capacity setup d past _ _ (made_put c since r at_work is_row) before =
-    each_with_end EchoFailsByFault past d.addr (entry.Put r) (record_end d past c since r) tt (λ older end. tt) before
-
-echo_step : (capacity : ℕ) (setup : Setup) (past news : List Entry) (s : Step) →
-    Brought capacity setup past s news → EachEntry EchoFailsByFault past → EachEntry EchoFailsByFault (news ++ past)
-echo_step capacity setup past _ _ (of_device d s news own told) before =
-    echo_there capacity setup d past news s told before
-echo_step capacity setup past _ _ (faulted f) before = (tt, before)
-echo_step capacity setup past _ _ (refused c why was) before = (tt, before)
-echo_step capacity setup past _ _ (began_scan is_free) before = (tt, before)
-echo_step capacity setup past _ _ (began_sale id price is_free lets) before = (tt, before)
-echo_step capacity setup past _ _ (nobody addr none) before = (tt, before)
-echo_step capacity setup past _ _ (polled c since check addr none is_job is_row) before =
-    each_with_end EchoFailsByFault past 0 (poll_wire setup past check addr) (poll_end setup past since check addr)
-    (clear_echo setup past (ask check addr (poll_of addr))) (λ older end. tt) before
-echo_step capacity setup past _ _ (sold id price since none selling) before = (tt, (tt, before))
-echo_step capacity setup past _ _ balanced before = (tt, before)
-echo_step capacity setup past _ _ (of_desk s e is) before = ((desk_apart s e is).no_echo past, before)
-echo_step capacity setup past _ _ (ended_short addr id count why paid rest small range was) before =
-    (tt, (tt, before))
-echo_step capacity setup past _ _ (lost_power at choice) before = (tt, before)
-echo_step capacity setup past _ _ (lost_in_put at choice d c since r own at_work is_row) before = (tt, (tt, before))
-echo_step capacity setup past _ _ (lost_in_sale at choice id price since none selling) before = (tt, (tt, before))
+echo_beside : (past : List Entry) (e : Entry) → IsBeside e → EchoFailsByFault past e
+echo_beside past (entry.Wire addr sent piece) beside = absurd beside
+echo_beside past e beside = tt
 
 -- an exchange in which the host didn't hear its own echo had a fault
 pub legal_echoes : (capacity : ℕ) (setup : Setup) (steps : List Step) (transcript : List Entry) →
     Legal capacity setup steps transcript → EachEntry EchoFailsByFault (onto [] transcript)
 legal_echoes capacity setup steps transcript legal =
     each_brought capacity setup (λ s. ⊤) (EachEntry EchoFailsByFault)
-    (λ past news s any told before. echo_step capacity setup past news s told before) (λ past addr before. (tt, before))
+    (λ past news s any told before.
+    step_so capacity setup EchoFailsByFault echo_beside (λ older addr sent. clear_echo setup older sent) past news s
+    (λ d e m ls own comes. ((loose d (met d past) s e m ls comes).no_exchange d past).1) tt told before)
+    (λ past addr before. (tt, before))
     [] steps (onto [] transcript) (any_steps steps) legal tt
 
 -- the exchanges of a device, but for those that ask what is excused: entries that are none of it
