@@ -17,11 +17,11 @@ use Rattle.cct_model.specs.Request.{data_of, request_of, requests_with, form_of}
 use Rattle.cct_model.specs.Reply.{reply_data, reply_in}
 use Rattle.cct_model.specs.Setting.{has_place}
 use Rattle.cct_model.specs.Exchange.{ask, asked, asks_of, after_echo, got}
-use Rattle.cct_model.specs.Transcript.{got_by}
+use Rattle.cct_model.specs.Transcript.{got_by, lines_of}
 use Rattle.cct_model.specs.Reading.{distance, accepted_between, judge}
 use Rattle.cct_laws_live.proofs.Worked.{Lives, Row, after, coin, one, taker, texts}
 use Rattle.cct_model.specs.Line.{Line, exchange, put, taken, restarted}
-use Rattle.cct_model.specs.Order.{close, life_between}
+use Rattle.cct_model.specs.Order.{close, life_between, order}
 use Rattle.cct_model.specs.Reply as reply
 use Rattle.cct_laws_live.specs.Live.{started}
 use Rattle.cct_laws_live.specs.LiveStep as live
@@ -51,19 +51,25 @@ one_left = exchange (Some GetStatus) (Some (reply.status 1 1 1 0))
 abbrev paid_one : List Line
 paid_one = life_heard 0 ∷ none_left_heard 1 1 1 ∷ one_left ∷ paying
 
-closes_at_one : CloseOf WasHeardOpen paid_one (record_of.Closed 7 1 1)
+by_one : (Opens : List Line → OpenOrder → Type 0) (lines : List Line) → order lines ≡ Some the_order →
+    Opens lines the_order → HaveInTurn (since_sent lines) (life_heard 0 ∷ none_left_heard 1 1 1 ∷ []) →
+    ClosedBy Opens lines (record_of.Closed 7 1 1)
 unfolding life_between
-closes_at_one = record {
+by_one Opens lines is_open opened heard = record {
   owed = the_order;
   life = 0;
   events = 1;
   paid = 1;
   unpaid = 1;
-  is_open = refl;
-  opened = inr (inr (inr (inr (inl (refl, inl (refl, tt))))));
-  heard = inl (refl, inl (refl, tt));
+  is_open = is_open;
+  opened = opened;
+  heard = heard;
   settles = (refl, refl, refl);
 }
+
+closes_at_one : CloseOf WasHeardOpen paid_one (record_of.Closed 7 1 1)
+closes_at_one =
+    by_one WasHeardOpen paid_one refl (inr (inr (inr (inr (inl (refl, inl (refl, tt))))))) (inl (refl, inl (refl, tt)))
 
 -- three coins fell of two: both life counts are recorded
 closes_odd : CloseOf WasHeardOpen (life_heard 2 ∷ none_left_heard 1 2 0 ∷ paying) (record_of.Odd 7 16777215 2)
@@ -85,36 +91,17 @@ abbrev settled_later : List Line
 settled_later = life_heard 0 ∷ none_left_heard 1 1 1 ∷ taken (command.Settle 3) ∷ restarted ∷ paying
 
 closes_in_the_next_life : CloseOf WasHeardOpen settled_later (record_of.Closed 7 1 1)
-unfolding life_between
-closes_in_the_next_life = record {
-  owed = the_order;
-  life = 0;
-  events = 1;
-  paid = 1;
-  unpaid = 1;
-  is_open = refl;
-  opened = inr (inr (inr (inr (inr (inl (refl, inl (refl, tt)))))));
-  heard = inl (refl, inl (refl, tt));
-  settles = (refl, refl, refl);
-}
+closes_in_the_next_life =
+    by_one WasHeardOpen settled_later refl
+    (inr (inr (inr (inr (inr (inl (refl, inl (refl, tt)))))))) (inl (refl, inl (refl, tt)))
 
 -- where the order was found open, nothing is known of its first life count but that it was recorded
 abbrev found_open : List Line
 found_open = life_heard 0 ∷ none_left_heard 1 1 1 ∷ taken (command.Settle 3) ∷ restarted ∷ put opened ∷ []
 
 closes_what_was_found : CloseOf WasOpened found_open (record_of.Closed 7 1 1)
-unfolding life_between
-closes_what_was_found = record {
-  owed = the_order;
-  life = 0;
-  events = 1;
-  paid = 1;
-  unpaid = 1;
-  is_open = refl;
-  opened = inr (inr (inr (inr (inl (refl, tt)))));
-  heard = inl (refl, inl (refl, tt));
-  settles = (refl, refl, refl);
-}
+closes_what_was_found =
+    by_one WasOpened found_open refl (inr (inr (inr (inr (inl (refl, tt)))))) (inl (refl, inl (refl, tt)))
 
 unheard_at_first : CloseOf WasHeardOpen found_open (record_of.Closed 7 1 1) → ⊥
 unheard_at_first by = elim by.opened [
@@ -290,17 +277,9 @@ settles = (
 closes_on_the_wire : CloseAt WasHeardOpen payer (after (started posted) settling) (entry.Put (record_of.Closed 7 1 1))
 unfolding message spelling data_of request_of requests_with form_of reply_data reply_in has_place ask asked asks_of after_echo got
     got_by life_between
-closes_on_the_wire here = record {
-  owed = the_order;
-  life = 0;
-  events = 1;
-  paid = 1;
-  unpaid = 1;
-  is_open = refl;
-  opened = inr (inr (inr (inr (inr (inr (inl (refl, inl (refl, tt))))))));
-  heard = inl (refl, inl (refl, tt));
-  settles = (refl, refl, refl);
-}
+closes_on_the_wire here =
+    by_one WasHeardOpen (lines_of payer (after (started posted) settling)) refl
+    (inr (inr (inr (inr (inr (inr (inl (refl, inl (refl, tt))))))))) (inl (refl, inl (refl, tt)))
 
 -- so does a power cut in its put that keeps the record; no other kept one does
 closes_in_a_power_cut : CloseAt WasHeardOpen payer (entry.Crash 4 ∷ after (started posted) settling) (entry.Kept (record_of.Closed 7 1 1))
