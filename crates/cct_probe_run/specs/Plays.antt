@@ -192,6 +192,10 @@ module _ {L K : Type 0} (reads : L → Option (List ℕ) → L → Type 0)
         Exchanges bench said next → Plays first next
     told : (bench next : Bench L K) → Plays first bench → Tells bench next → Plays first next
 
+  -- They go on from one moment to a later one.
+  abbrev pub PlaysOn : Bench L K → Bench L K → Type 0
+  PlaysOn before after = (first : Bench L K) → Plays first before → Plays first after
+
   -- How many coins were ordered.
   abbrev pub ordered : {first last : Bench L K} → Plays first last → ℕ
   ordered not_begun = 0

@@ -12,7 +12,7 @@ ghost use Rattle.cct_probe_plan.specs.declared.memory.Memory.{Memory};
 ghost use Rattle.cct_model_wire.specs.Exchange.{after_echo};
 ghost use Rattle.cct_probe_run.specs.Doing.{StepCame, has_paid, is_paid};
 ghost use Rattle.cct_probe_run.specs.Leaving.{Sent};
-ghost use Rattle.cct_probe_run.specs.Plays.{IsOfPlan, IsStep, Plays};
+ghost use Rattle.cct_probe_run.specs.Plays.{IsOfPlan, IsStep, PlaysOn};
 ghost use Rattle.cct_probe_run.specs.Showing.{IsOrLate, NamesIf, ShowsIf};
 ghost use Rattle.cct_probe_run.specs.declared.bench.Bench.{Bench};
 
@@ -62,9 +62,8 @@ pub(crate) fn act<L: Line, K: Sink, S: Source>(
 ) -> Result<Done, Stop>
     requires of_plan { IsStep plan.trials.now step }
     requires there { Contains plan.setup.now.devices turn.device.now }
-    ensures plays { (first : Bench L K) →
-        Plays L.reads L.writes K.puts plan.entry.setup.now plan.entry.trials.now first bench.old →
-        Plays L.reads L.writes K.puts plan.entry.setup.now plan.entry.trials.now first bench.new }
+    ensures plays { PlaysOn L.reads L.writes K.puts plan.entry.setup.now plan.entry.trials.now
+        bench.old bench.new }
     ensures shows { (trials : List Trial) → IsStep trials step →
         IfOk result (ShowsIf plan.entry.setup.now trials turn.entry.premise bench.new.sent.items) }
     ensures came { IfOk result (StepCame L.reads L.writes K.puts plan.entry.setup.now
@@ -90,9 +89,8 @@ fn ask<L: Line, K: Sink>(
 ) -> Result<Done, Stop>
     requires of_plan { IsOfPlan plan.trials.now say }
     requires there { Contains plan.setup.now.devices turn.device.now }
-    ensures plays { (first : Bench L K) →
-        Plays L.reads L.writes K.puts plan.entry.setup.now plan.entry.trials.now first bench.old →
-        Plays L.reads L.writes K.puts plan.entry.setup.now plan.entry.trials.now first bench.new }
+    ensures plays { PlaysOn L.reads L.writes K.puts plan.entry.setup.now plan.entry.trials.now
+        bench.old bench.new }
     ensures shows { (trials : List Trial) → IsOfPlan trials say →
         IfOk result (ShowsIf plan.entry.setup.now trials turn.entry.premise bench.new.sent.items) }
     ensures came { IfOk result (StepCame L.reads L.writes K.puts plan.entry.setup.now
@@ -115,9 +113,8 @@ fn judged<L: Line, K: Sink>(
     want: Want,
 ) -> Result<Done, Stop>
     requires there { Contains plan.setup.now.devices turn.device.now }
-    ensures plays { (first : Bench L K) →
-        Plays L.reads L.writes K.puts plan.entry.setup.now plan.entry.trials.now first bench.old →
-        Plays L.reads L.writes K.puts plan.entry.setup.now plan.entry.trials.now first bench.new }
+    ensures plays { PlaysOn L.reads L.writes K.puts plan.entry.setup.now plan.entry.trials.now
+        bench.old bench.new }
     ensures shows { (trials : List Trial) (say : Say) → IsOfPlan trials say →
         IsSaid say plan.entry.setup.now turn.entry.device.now turn.entry.round bench.old.sent.items →
         IfOk result (ShowsIf plan.entry.setup.now trials turn.entry.premise bench.new.sent.items) }
@@ -158,9 +155,8 @@ fn listen<L: Line, K: Sink>(
 ) -> Result<Done, Stop>
     requires there { Contains plan.setup.now.devices turn.device.now }
     requires names { NamesIf turn.premise silent }
-    ensures plays { (first : Bench L K) →
-        Plays L.reads L.writes K.puts plan.entry.setup.now plan.entry.trials.now first bench.old →
-        Plays L.reads L.writes K.puts plan.entry.setup.now plan.entry.trials.now first bench.new }
+    ensures plays { PlaysOn L.reads L.writes K.puts plan.entry.setup.now plan.entry.trials.now
+        bench.old bench.new }
     ensures shows { (trials : List Trial) →
         IfOk result (ShowsIf plan.entry.setup.now trials turn.entry.premise bench.new.sent.items) }
     ensures came { IfOk result (IsOrLate silent) }
@@ -181,9 +177,8 @@ fn wait<L: Line, K: Sink>(
 ) -> Result<Done, Stop>
     requires of_plan { IsOfPlan plan.trials.now (say.Ask (ask.Plain 166)) }
     requires there { Contains plan.setup.now.devices turn.device.now }
-    ensures plays { (first : Bench L K) →
-        Plays L.reads L.writes K.puts plan.entry.setup.now plan.entry.trials.now first bench.old →
-        Plays L.reads L.writes K.puts plan.entry.setup.now plan.entry.trials.now first bench.new }
+    ensures plays { PlaysOn L.reads L.writes K.puts plan.entry.setup.now plan.entry.trials.now
+        bench.old bench.new }
     ensures shows { (trials : List Trial) →
         IfOk result (ShowsIf plan.entry.setup.now trials turn.entry.premise bench.new.sent.items) }
     ensures came { (kept : Memory) → IfOk result (StepCame L.reads L.writes K.puts
@@ -247,9 +242,8 @@ fn settle<L: Line, K: Sink>(
 ) -> Result<Done, Stop>
     requires of_plan { IsOfPlan plan.trials.now (say.Ask ask.Credits) }
     requires there { Contains plan.setup.now.devices turn.device.now }
-    ensures plays { (first : Bench L K) →
-        Plays L.reads L.writes K.puts plan.entry.setup.now plan.entry.trials.now first bench.old →
-        Plays L.reads L.writes K.puts plan.entry.setup.now plan.entry.trials.now first bench.new }
+    ensures plays { PlaysOn L.reads L.writes K.puts plan.entry.setup.now plan.entry.trials.now
+        bench.old bench.new }
     ensures shows { (trials : List Trial) →
         IfOk result (ShowsIf plan.entry.setup.now trials turn.entry.premise bench.new.sent.items) }
     ensures came { (kept : Memory) → IfOk result (StepCame L.reads L.writes K.puts
@@ -287,9 +281,8 @@ fn prompt<L: Line, K: Sink, S: Source>(
     turn: Turn<'_>,
     act: Act,
 ) -> Result<Done, Stop>
-    ensures plays { (setup : Setup) (trials : List Trial) (first : Bench L K) →
-        Plays L.reads L.writes K.puts setup trials first bench.old →
-        Plays L.reads L.writes K.puts setup trials first bench.new }
+    ensures plays { (setup : Setup) (trials : List Trial) →
+        PlaysOn L.reads L.writes K.puts setup trials bench.old bench.new }
     ensures shows { (setup : Setup) (trials : List Trial) →
         IfOk result (ShowsIf setup trials turn.entry.premise bench.new.sent.items) }
     ensures came { (setup : Setup) (trials : List Trial) (kept : Memory) → IfOk result

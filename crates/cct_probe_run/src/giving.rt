@@ -10,7 +10,7 @@ ghost use Rattle.cct_probe_run.specs.Doing.{IsTooMuch, TellsThat};
 ghost use Rattle.cct_probe_run.specs.Broken.{fails};
 ghost use Rattle.cct_probe_run.specs.Leaving.{Sent};
 ghost use Rattle.cct_probe_run.specs.Plays.{Begun, Given, IsNoEmptyOrder, IsNoOrder, IsOfPlan};
-ghost use Rattle.cct_probe_run.specs.Plays.{Plays, Shows, coins_of};
+ghost use Rattle.cct_probe_run.specs.Plays.{Plays, PlaysOn, Shows, coins_of};
 ghost use Rattle.cct_probe_run.specs.declared.bench.Bench.{Bench};
 
 use crate::bench::{Bench, Exchanged, Plan, Stop};
@@ -26,9 +26,8 @@ impl<L: Line, K: Sink> Bench<L, K> {
     pub(crate) fn exchange(&mut self, plan: Plan<'_>, say: Say, turn: Turn<'_>) -> Exchanged
         requires of_plan { IsOfPlan plan.trials.now say }
         requires there { Contains plan.setup.now.devices turn.device.now }
-        ensures plays { (first : Bench L K) →
-            Plays L.reads L.writes K.puts plan.entry.setup.now plan.entry.trials.now first self.old →
-            Plays L.reads L.writes K.puts plan.entry.setup.now plan.entry.trials.now first self.new }
+        ensures plays { PlaysOn L.reads L.writes K.puts plan.entry.setup.now plan.entry.trials.now
+            self.old self.new }
         ensures bytes { result ≡ Heard → IsSaid say plan.entry.setup.now turn.entry.device.now
             turn.entry.round self.new.sent.items }
         ensures sent { IsNoOrder say → Sent L.reads L.writes K.puts plan.entry.setup.now
@@ -69,9 +68,8 @@ impl<L: Line, K: Sink> Bench<L, K> {
     /// Writes a line that shows no premise broken, by one put.
     pub(crate) fn tell(&mut self, line: &TextLine) -> Result<(), Stop>
         requires other { Begun line.now }
-        ensures plays { (setup : Setup) (trials : List Trial) (first : Bench L K) →
-            Plays L.reads L.writes K.puts setup trials first self.old →
-            Plays L.reads L.writes K.puts setup trials first self.new }
+        ensures plays { (setup : Setup) (trials : List Trial) →
+            PlaysOn L.reads L.writes K.puts setup trials self.old self.new }
         ensures still { self.new.broken ≡ self.old.broken }
     {
         put(&mut self.out, line.as_slice())
@@ -80,18 +78,16 @@ impl<L: Line, K: Sink> Bench<L, K> {
     /// Says that a promise holds, where no premise that it rests on was reported as broken.
     pub(crate) fn tell_holds(&mut self, promise: Promise) -> Result<(), Stop>
         requires kept { fails promise self.old.broken ≡ false }
-        ensures plays { (setup : Setup) (trials : List Trial) (first : Bench L K) →
-            Plays L.reads L.writes K.puts setup trials first self.old →
-            Plays L.reads L.writes K.puts setup trials first self.new }
+        ensures plays { (setup : Setup) (trials : List Trial) →
+            PlaysOn L.reads L.writes K.puts setup trials self.old self.new }
     {
         put(&mut self.out, holds_line(promise))
     }
 
     /// Writes the last exchange.
     pub(crate) fn tell_wire(&mut self, addr: u8) -> Result<(), Stop>
-        ensures plays { (setup : Setup) (trials : List Trial) (first : Bench L K) →
-            Plays L.reads L.writes K.puts setup trials first self.old →
-            Plays L.reads L.writes K.puts setup trials first self.new }
+        ensures plays { (setup : Setup) (trials : List Trial) →
+            PlaysOn L.reads L.writes K.puts setup trials self.old self.new }
     {
         if self.leave.is_quiet {
             return Ok(());

@@ -6,7 +6,7 @@ ghost use Rattle.cct_probe_plan.specs.Closing.{all_said, closes, closing, is_for
 ghost use Rattle.cct_probe_plan.specs.declared.plan.Step.{Step};
 ghost use Rattle.cct_probe_plan.specs.declared.plan.Trial.{Trial};
 ghost use Rattle.cct_probe_run.specs.Leaving.{Leaves, OrderNone, Rests, Sends};
-ghost use Rattle.cct_probe_run.specs.Plays.{IsNoOrder, IsOfPlan, IsStep, Plays};
+ghost use Rattle.cct_probe_run.specs.Plays.{IsNoOrder, IsOfPlan, IsStep, PlaysOn};
 ghost use Rattle.cct_probe_run.specs.declared.bench.Bench.{Bench};
 
 use crate::bench::{Bench, Exchanged, Plan, Stop};
@@ -17,9 +17,8 @@ use cct_probe_plan::{Ending, Say, Step, Trial, Turn};
 
 /// Leaves each device as it may stay, whatever it answers.
 pub(crate) fn leave<L: Line, K: Sink>(bench: &mut Bench<L, K>, plan: Plan<'_>) -> Result<(), Stop>
-    ensures plays { (first : Bench L K) →
-        Plays L.reads L.writes K.puts plan.entry.setup.now plan.entry.trials.now first bench.old →
-        Plays L.reads L.writes K.puts plan.entry.setup.now plan.entry.trials.now first bench.new }
+    ensures plays { PlaysOn L.reads L.writes K.puts plan.entry.setup.now plan.entry.trials.now
+        bench.old bench.new }
     ensures leaves { Leaves L.reads L.writes K.puts plan.entry.setup.now plan.entry.trials.now
         plan.entry.setup.now.devices bench.old bench.new }
 {
@@ -34,9 +33,8 @@ fn leave_each<L: Line, K: Sink>(
 ) -> Result<(), Stop>
     requires there { (device : DeviceSetup) → Contains devices.now device →
         Contains plan.setup.now.devices device }
-    ensures plays { (first : Bench L K) →
-        Plays L.reads L.writes K.puts plan.entry.setup.now plan.entry.trials.now first bench.old →
-        Plays L.reads L.writes K.puts plan.entry.setup.now plan.entry.trials.now first bench.new }
+    ensures plays { PlaysOn L.reads L.writes K.puts plan.entry.setup.now plan.entry.trials.now
+        bench.old bench.new }
     ensures leaves { Leaves L.reads L.writes K.puts plan.entry.setup.now plan.entry.trials.now
         devices.now bench.old bench.new }
 {
@@ -67,9 +65,8 @@ pub(crate) fn close<L: Line, K: Sink>(
     gap: u16,
 ) -> Result<(), Stop>
     requires there { Contains plan.setup.now.devices device.now }
-    ensures plays { (first : Bench L K) →
-        Plays L.reads L.writes K.puts plan.entry.setup.now plan.entry.trials.now first bench.old →
-        Plays L.reads L.writes K.puts plan.entry.setup.now plan.entry.trials.now first bench.new }
+    ensures plays { PlaysOn L.reads L.writes K.puts plan.entry.setup.now plan.entry.trials.now
+        bench.old bench.new }
     ensures sends { OrderNone (closing ending device.now.body plan.entry.trials.now) →
         Sends L.reads L.writes K.puts plan.entry.setup.now device.now 0
         (closing ending device.now.body plan.entry.trials.now) bench.old bench.new }
@@ -90,9 +87,8 @@ fn close_all<L: Line, K: Sink>(
     requires of_plan { (trial : Trial) → Contains trials.now trial →
         Contains plan.trials.now trial }
     requires there { Contains plan.setup.now.devices device.now }
-    ensures plays { (first : Bench L K) →
-        Plays L.reads L.writes K.puts plan.entry.setup.now plan.entry.trials.now first bench.old →
-        Plays L.reads L.writes K.puts plan.entry.setup.now plan.entry.trials.now first bench.new }
+    ensures plays { PlaysOn L.reads L.writes K.puts plan.entry.setup.now plan.entry.trials.now
+        bench.old bench.new }
     ensures sends { OrderNone (closing ending device.now.body trials.now) →
         Sends L.reads L.writes K.puts plan.entry.setup.now device.now 0
         (closing ending device.now.body trials.now) bench.old bench.new }
@@ -128,9 +124,8 @@ fn close_by<L: Line, K: Sink>(
 ) -> Result<(), Stop>
     requires of_plan { Contains plan.trials.now trial.now }
     requires there { Contains plan.setup.now.devices device.now }
-    ensures plays { (first : Bench L K) →
-        Plays L.reads L.writes K.puts plan.entry.setup.now plan.entry.trials.now first bench.old →
-        Plays L.reads L.writes K.puts plan.entry.setup.now plan.entry.trials.now first bench.new }
+    ensures plays { PlaysOn L.reads L.writes K.puts plan.entry.setup.now plan.entry.trials.now
+        bench.old bench.new }
     ensures sends { OrderNone (all_said trial.now.steps.now) →
         Sends L.reads L.writes K.puts plan.entry.setup.now device.now 0 (all_said trial.now.steps.now)
         bench.old bench.new }
@@ -154,9 +149,8 @@ fn close_steps<L: Line, K: Sink>(
 ) -> Result<(), Stop>
     requires of_plan { (this : Step) → Contains steps.now this → IsStep plan.trials.now this }
     requires there { Contains plan.setup.now.devices turn.device.now }
-    ensures plays { (first : Bench L K) →
-        Plays L.reads L.writes K.puts plan.entry.setup.now plan.entry.trials.now first bench.old →
-        Plays L.reads L.writes K.puts plan.entry.setup.now plan.entry.trials.now first bench.new }
+    ensures plays { PlaysOn L.reads L.writes K.puts plan.entry.setup.now plan.entry.trials.now
+        bench.old bench.new }
     ensures sends { OrderNone (all_said steps.now) →
         Sends L.reads L.writes K.puts plan.entry.setup.now turn.entry.device.now turn.entry.round
         (all_said steps.now) bench.old bench.new }
@@ -180,9 +174,8 @@ fn close_step<L: Line, K: Sink>(
 ) -> Result<(), Stop>
     requires of_plan { IsStep plan.trials.now step }
     requires there { Contains plan.setup.now.devices turn.device.now }
-    ensures plays { (first : Bench L K) →
-        Plays L.reads L.writes K.puts plan.entry.setup.now plan.entry.trials.now first bench.old →
-        Plays L.reads L.writes K.puts plan.entry.setup.now plan.entry.trials.now first bench.new }
+    ensures plays { PlaysOn L.reads L.writes K.puts plan.entry.setup.now plan.entry.trials.now
+        bench.old bench.new }
     ensures sends { OrderNone (said_in step) →
         Sends L.reads L.writes K.puts plan.entry.setup.now turn.entry.device.now turn.entry.round
         (said_in step) bench.old bench.new }
@@ -205,9 +198,8 @@ fn close_once<L: Line, K: Sink>(
 ) -> Result<(), Stop>
     requires of_plan { IsOfPlan plan.trials.now say }
     requires there { Contains plan.setup.now.devices turn.device.now }
-    ensures plays { (first : Bench L K) →
-        Plays L.reads L.writes K.puts plan.entry.setup.now plan.entry.trials.now first bench.old →
-        Plays L.reads L.writes K.puts plan.entry.setup.now plan.entry.trials.now first bench.new }
+    ensures plays { PlaysOn L.reads L.writes K.puts plan.entry.setup.now plan.entry.trials.now
+        bench.old bench.new }
     ensures sends { IsNoOrder say → Sends L.reads L.writes K.puts plan.entry.setup.now
         turn.entry.device.now turn.entry.round (say ∷ []) bench.old bench.new }
 {

@@ -8,7 +8,7 @@ ghost use Rattle.cct_probe_plan.specs.declared.plan.Trial.{Trial};
 ghost use Rattle.cct_probe_run.specs.Doing.{AllDone, AllTried, Came, EachTried, IsHere};
 ghost use Rattle.cct_probe_run.specs.Doing.{LineTried, NextTried, TryCame, has_heard};
 ghost use Rattle.cct_probe_run.specs.Leaving.{EndsLeft};
-ghost use Rattle.cct_probe_run.specs.Plays.{Plays};
+ghost use Rattle.cct_probe_run.specs.Plays.{Plays, PlaysOn};
 ghost use Rattle.cct_probe_run.specs.declared.bench.Bench.{Bench};
 
 use crate::bench::{Bench, Plan, Stop};
@@ -93,9 +93,8 @@ fn try_all<L: Line, K: Sink, S: Source, C: Clock>(
     person: &mut Person<S>,
     clock: &mut C,
 ) -> Result<bool, Stop>
-    ensures plays { (first : Bench L K) →
-        Plays L.reads L.writes K.puts plan.entry.setup.now plan.entry.trials.now first bench.old →
-        Plays L.reads L.writes K.puts plan.entry.setup.now plan.entry.trials.now first bench.new }
+    ensures plays { PlaysOn L.reads L.writes K.puts plan.entry.setup.now plan.entry.trials.now
+        bench.old bench.new }
     ensures tries { IfOk result (λ heard. AllDone L.reads L.writes K.puts plan.entry.setup.now
         plan.entry.trials.now heard bench.old bench.new) }
 {
@@ -120,9 +119,8 @@ fn try_devices<L: Line, K: Sink, S: Source, C: Clock>(
     clock: &mut C,
     findings: &mut Findings,
 ) -> Result<bool, Stop>
-    ensures plays { (first : Bench L K) →
-        Plays L.reads L.writes K.puts plan.entry.setup.now plan.entry.trials.now first bench.old →
-        Plays L.reads L.writes K.puts plan.entry.setup.now plan.entry.trials.now first bench.new }
+    ensures plays { PlaysOn L.reads L.writes K.puts plan.entry.setup.now plan.entry.trials.now
+        bench.old bench.new }
     ensures tried { IfOk result (λ _. EachTried L.reads L.writes K.puts plan.entry.setup.now
         plan.entry.trials.now plan.entry.setup.now.devices bench.old bench.new) }
 {
@@ -157,9 +155,8 @@ fn run_device<L: Line, K: Sink, S: Source, C: Clock>(
     device: &DeviceSetup,
 ) -> Result<bool, Stop>
     requires there { Contains plan.setup.now.devices device.now }
-    ensures plays { (first : Bench L K) →
-        Plays L.reads L.writes K.puts plan.entry.setup.now plan.entry.trials.now first bench.old →
-        Plays L.reads L.writes K.puts plan.entry.setup.now plan.entry.trials.now first bench.new }
+    ensures plays { PlaysOn L.reads L.writes K.puts plan.entry.setup.now plan.entry.trials.now
+        bench.old bench.new }
     ensures tried { IfOk result (λ _. AllTried L.reads L.writes K.puts plan.entry.setup.now
         plan.entry.trials.now device.now plan.entry.trials.now bench.old bench.new) }
 {
@@ -198,9 +195,8 @@ fn try_next<L: Line, K: Sink, S: Source, C: Clock>(
 ) -> Result<Presence, Stop>
     requires of_plan { Contains plan.trials.now trial.now }
     requires there { Contains plan.setup.now.devices device.now }
-    ensures plays { (first : Bench L K) →
-        Plays L.reads L.writes K.puts plan.entry.setup.now plan.entry.trials.now first bench.old →
-        Plays L.reads L.writes K.puts plan.entry.setup.now plan.entry.trials.now first bench.new }
+    ensures plays { PlaysOn L.reads L.writes K.puts plan.entry.setup.now plan.entry.trials.now
+        bench.old bench.new }
     ensures tried { (first : Bench L K) →
         Plays L.reads L.writes K.puts plan.entry.setup.now plan.entry.trials.now first bench.old →
         IsHere L.reads L.writes K.puts plan.entry.setup.now plan.entry.trials.now device.now
@@ -271,9 +267,8 @@ fn try_and_close<L: Line, K: Sink, S: Source, C: Clock>(
 ) -> Result<bool, Stop>
     requires of_plan { Contains plan.trials.now trial.now }
     requires there { Contains plan.setup.now.devices device.now }
-    ensures plays { (first : Bench L K) →
-        Plays L.reads L.writes K.puts plan.entry.setup.now plan.entry.trials.now first bench.old →
-        Plays L.reads L.writes K.puts plan.entry.setup.now plan.entry.trials.now first bench.new }
+    ensures plays { PlaysOn L.reads L.writes K.puts plan.entry.setup.now plan.entry.trials.now
+        bench.old bench.new }
     ensures came { IfOk result (TryCame L.reads L.writes K.puts plan.entry.setup.now
         plan.entry.trials.now device.now trial.now bench.old bench.new) }
 {
@@ -368,9 +363,8 @@ fn run_line<L: Line, K: Sink, S: Source, C: Clock>(
     device: &DeviceSetup,
 ) -> Result<(), Stop>
     requires there { Contains plan.setup.now.devices device.now }
-    ensures plays { (first : Bench L K) →
-        Plays L.reads L.writes K.puts plan.entry.setup.now plan.entry.trials.now first bench.old →
-        Plays L.reads L.writes K.puts plan.entry.setup.now plan.entry.trials.now first bench.new }
+    ensures plays { PlaysOn L.reads L.writes K.puts plan.entry.setup.now plan.entry.trials.now
+        bench.old bench.new }
     ensures tried { IfOk result (λ _. LineTried L.reads L.writes K.puts plan.entry.setup.now
         plan.entry.trials.now device.now plan.entry.trials.now bench.old bench.new) }
 {
@@ -403,9 +397,8 @@ fn try_on_line<L: Line, K: Sink, S: Source, C: Clock>(
 ) -> Result<(), Stop>
     requires of_plan { Contains plan.trials.now trial.now }
     requires there { Contains plan.setup.now.devices device.now }
-    ensures plays { (first : Bench L K) →
-        Plays L.reads L.writes K.puts plan.entry.setup.now plan.entry.trials.now first bench.old →
-        Plays L.reads L.writes K.puts plan.entry.setup.now plan.entry.trials.now first bench.new }
+    ensures plays { PlaysOn L.reads L.writes K.puts plan.entry.setup.now plan.entry.trials.now
+        bench.old bench.new }
     ensures tried { IfOk result (λ _. is_of_line trial.now.part ≡ true → Came L.reads L.writes
         K.puts plan.entry.setup.now plan.entry.trials.now device.now trial.now bench.old bench.new) }
 {

@@ -2,7 +2,7 @@
 ghost use Rattle.std.specs.Prelude.{◌≡◌, IfOk, List};
 ghost use Rattle.cct_model_wire.specs.declared.device.Setup.{Setup};
 ghost use Rattle.cct_probe_plan.specs.declared.plan.Trial.{Trial};
-ghost use Rattle.cct_probe_run.specs.Plays.{Plays};
+ghost use Rattle.cct_probe_run.specs.Plays.{PlaysOn};
 ghost use Rattle.cct_probe_run.specs.declared.bench.Bench.{Bench};
 
 use crate::bench::{Bench, Stop};
@@ -20,9 +20,8 @@ pub(crate) fn tell_device<L: Line, K: Sink>(
     findings: &Findings,
     addr: u8,
 ) -> Result<(), Stop>
-    ensures plays { (setup : Setup) (trials : List Trial) (first : Bench L K) →
-        Plays L.reads L.writes K.puts setup trials first bench.old →
-        Plays L.reads L.writes K.puts setup trials first bench.new }
+    ensures plays { (setup : Setup) (trials : List Trial) →
+        PlaysOn L.reads L.writes K.puts setup trials bench.old bench.new }
 {
     for found in findings.as_slice() {
         if found.addr == addr {
@@ -34,9 +33,8 @@ pub(crate) fn tell_device<L: Line, K: Sink>(
 
 /// Says what was found of a premise.
 fn tell_finding<L: Line, K: Sink>(bench: &mut Bench<L, K>, found: Finding) -> Result<(), Stop>
-    ensures plays { (setup : Setup) (trials : List Trial) (first : Bench L K) →
-        Plays L.reads L.writes K.puts setup trials first bench.old →
-        Plays L.reads L.writes K.puts setup trials first bench.new }
+    ensures plays { (setup : Setup) (trials : List Trial) →
+        PlaysOn L.reads L.writes K.puts setup trials bench.old bench.new }
 {
     let word = found.premise.word();
     match found.standing {
@@ -54,9 +52,8 @@ pub(crate) fn tell_coins<L: Line, K: Sink>(
     device: &DeviceSetup,
     memory: &Memory,
 ) -> Result<(), Stop>
-    ensures plays { (setup : Setup) (trials : List Trial) (first : Bench L K) →
-        Plays L.reads L.writes K.puts setup trials first bench.old →
-        Plays L.reads L.writes K.puts setup trials first bench.new }
+    ensures plays { (setup : Setup) (trials : List Trial) →
+        PlaysOn L.reads L.writes K.puts setup trials bench.old bench.new }
 {
     let (first, last) = match (memory.first, memory.last) {
         (Some(first), Some(last)) => (first, last),
@@ -76,9 +73,8 @@ pub(crate) fn tell_promises<L: Line, K: Sink>(
     bench: &mut Bench<L, K>,
     findings: &Findings,
 ) -> Result<(), Stop>
-    ensures plays { (setup : Setup) (trials : List Trial) (first : Bench L K) →
-        Plays L.reads L.writes K.puts setup trials first bench.old →
-        Plays L.reads L.writes K.puts setup trials first bench.new }
+    ensures plays { (setup : Setup) (trials : List Trial) →
+        PlaysOn L.reads L.writes K.puts setup trials bench.old bench.new }
 {
     for promise in PROMISES {
         tell_each(bench, findings, promise, true)?;
@@ -97,9 +93,8 @@ fn tell_each<L: Line, K: Sink>(
     promise: Promise,
     is_broken: bool,
 ) -> Result<bool, Stop>
-    ensures plays { (setup : Setup) (trials : List Trial) (first : Bench L K) →
-        Plays L.reads L.writes K.puts setup trials first bench.old →
-        Plays L.reads L.writes K.puts setup trials first bench.new }
+    ensures plays { (setup : Setup) (trials : List Trial) →
+        PlaysOn L.reads L.writes K.puts setup trials bench.old bench.new }
     ensures still { IfOk result (λ _. bench.new.broken ≡ bench.old.broken) }
 {
     let word: &[u8] = if is_broken { b"fails" } else { b"open" };

@@ -6,7 +6,7 @@ ghost use Rattle.cct_probe_plan.specs.declared.plan.Trial.{Trial};
 ghost use Rattle.cct_probe_plan.specs.declared.premise.Common.TheVariants as common;
 ghost use Rattle.cct_probe_plan.specs.declared.premise.Premise.TheVariants as premise_of;
 ghost use Rattle.cct_probe_run.specs.Doing.{Concludes, IsLacking, RoundCame, RoundsCame, TryCame};
-ghost use Rattle.cct_probe_run.specs.Plays.{Plays};
+ghost use Rattle.cct_probe_run.specs.Plays.{PlaysOn};
 ghost use Rattle.cct_probe_run.specs.Showing.{ShowsIf};
 ghost use Rattle.cct_probe_run.specs.declared.bench.Bench.{Bench};
 
@@ -62,9 +62,8 @@ pub(crate) fn try_out<L: Line, K: Sink, S: Source, C: Clock>(
 ) -> Result<bool, Stop>
     requires of_plan { Contains plan.trials.now trial.now }
     requires there { Contains plan.setup.now.devices device.now }
-    ensures plays { (first : Bench L K) →
-        Plays L.reads L.writes K.puts plan.entry.setup.now plan.entry.trials.now first bench.old →
-        Plays L.reads L.writes K.puts plan.entry.setup.now plan.entry.trials.now first bench.new }
+    ensures plays { PlaysOn L.reads L.writes K.puts plan.entry.setup.now plan.entry.trials.now
+        bench.old bench.new }
     ensures came { IfOk result (TryCame L.reads L.writes K.puts plan.entry.setup.now
         plan.entry.trials.now device.now trial.now bench.old bench.new) }
 {
@@ -83,9 +82,8 @@ fn tell_begin<L: Line, K: Sink>(
     told: u8,
     trial: &Trial,
 ) -> Result<(), Stop>
-    ensures plays { (setup : Setup) (trials : List Trial) (first : Bench L K) →
-        Plays L.reads L.writes K.puts setup trials first bench.old →
-        Plays L.reads L.writes K.puts setup trials first bench.new }
+    ensures plays { (setup : Setup) (trials : List Trial) →
+        PlaysOn L.reads L.writes K.puts setup trials bench.old bench.new }
 {
     bench.tell(&line_of(b"trial", told, &[trial.name]))?;
     if let Need::Coins(coins) = trial.need {
@@ -107,9 +105,8 @@ fn go<L: Line, K: Sink, S: Source, C: Clock>(
 ) -> Result<Done, Stop>
     requires of_plan { Contains plan.trials.now trial.now }
     requires there { Contains plan.setup.now.devices device.now }
-    ensures plays { (first : Bench L K) →
-        Plays L.reads L.writes K.puts plan.entry.setup.now plan.entry.trials.now first bench.old →
-        Plays L.reads L.writes K.puts plan.entry.setup.now plan.entry.trials.now first bench.new }
+    ensures plays { PlaysOn L.reads L.writes K.puts plan.entry.setup.now plan.entry.trials.now
+        bench.old bench.new }
     ensures shows { IfOk result (ShowsIf plan.entry.setup.now (trial.now ∷ []) trial.now.premise
         bench.new.sent.items) }
     ensures came { IfOk result (RoundsCame L.reads L.writes K.puts plan.entry.setup.now
@@ -157,9 +154,8 @@ fn take_span(spans: &mut Spans, span: u64) {
 
 /// Writes the longest span and the mean one.
 fn tell_spans<L: Line, K: Sink>(bench: &mut Bench<L, K>, told: u8, spans: Spans) -> Result<(), Stop>
-    ensures plays { (setup : Setup) (trials : List Trial) (first : Bench L K) →
-        Plays L.reads L.writes K.puts setup trials first bench.old →
-        Plays L.reads L.writes K.puts setup trials first bench.new }
+    ensures plays { (setup : Setup) (trials : List Trial) →
+        PlaysOn L.reads L.writes K.puts setup trials bench.old bench.new }
 {
     let mean = if spans.many == 0 {
         0
@@ -180,9 +176,8 @@ fn go_round<L: Line, K: Sink, S: Source>(
 ) -> Result<Done, Stop>
     requires of_plan { Contains plan.trials.now trial.now }
     requires there { Contains plan.setup.now.devices turn.device.now }
-    ensures plays { (first : Bench L K) →
-        Plays L.reads L.writes K.puts plan.entry.setup.now plan.entry.trials.now first bench.old →
-        Plays L.reads L.writes K.puts plan.entry.setup.now plan.entry.trials.now first bench.new }
+    ensures plays { PlaysOn L.reads L.writes K.puts plan.entry.setup.now plan.entry.trials.now
+        bench.old bench.new }
     ensures shows { IfOk result (ShowsIf plan.entry.setup.now (trial.now ∷ []) turn.entry.premise
         bench.new.sent.items) }
     ensures came { IfOk result (RoundCame L.reads L.writes K.puts plan.entry.setup.now
@@ -211,9 +206,8 @@ fn conclude<L: Line, K: Sink>(
     requires of_plan { Contains plan.trials.now trial.now }
     requires shows { ShowsIf plan.setup.now (trial.now ∷ []) trial.now.premise bench.old.sent.items
         done }
-    ensures plays { (first : Bench L K) →
-        Plays L.reads L.writes K.puts plan.entry.setup.now plan.entry.trials.now first bench.old →
-        Plays L.reads L.writes K.puts plan.entry.setup.now plan.entry.trials.now first bench.new }
+    ensures plays { PlaysOn L.reads L.writes K.puts plan.entry.setup.now plan.entry.trials.now
+        bench.old bench.new }
     ensures concludes { IfOk result (Concludes L.reads L.writes K.puts plan.entry.setup.now
         plan.entry.trials.now done bench.old bench.new) }
 {
