@@ -1,6 +1,6 @@
 //! What is said of how the program ended.
 
-use crate::ending::{Meaning, meaning_of};
+use crate::ending::{FILE, meaning_of};
 use crate::fields::first_field;
 use crate::forms::Part;
 use crate::refusal::{Refusal, addr_in};
@@ -35,7 +35,10 @@ enum Said<'a> {
     /// What is wrong with a line of the script.
     Refusal(Refusal<'a>),
     /// What the last line means, of the journal in this file.
-    Meaning { meaning: Meaning, journal: &'a str },
+    Meaning {
+        meaning: &'static str,
+        journal: &'a str,
+    },
 }
 
 /// What there is to say after this last line of a transcript, which may have its line feed, and
@@ -126,19 +129,19 @@ impl fmt::Display for Advice<'_> {
     fn fmt<W: fmt::Write>(&self, f: &mut fmt::Formatter<W>) -> fmt::Result {
         match &self.0 {
             Said::Refusal(refusal) => write!(f, "{refusal}"),
-            Said::Meaning { meaning, journal } => write_meaning(*meaning, journal, f),
+            Said::Meaning { meaning, journal } => write_meaning(meaning, journal, f),
         }
     }
 }
 
 /// Writes what a last line means.
 fn write_meaning<W: fmt::Write>(
-    meaning: Meaning,
+    meaning: &str,
     journal: &str,
     f: &mut fmt::Formatter<W>,
 ) -> fmt::Result {
-    match meaning {
-        Meaning::Plain(text) => f.write_str(text),
-        Meaning::OfJournal { before, after } => write!(f, "{before}{journal}{after}"),
+    match meaning.split_once(FILE) {
+        Some((before, after)) => write!(f, "{before}{journal}{after}"),
+        None => f.write_str(meaning),
     }
 }

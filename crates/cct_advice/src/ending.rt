@@ -22,81 +22,49 @@ pub const UNCHECKED: &str =
 pub const UNTOLD: &str =
     "standard output couldn't be written; give the capture to audit again (docs/OPERATING.md, \"Exit statuses\")";
 
-const UNREAD: Meaning = Meaning::Plain(
-    "standard input couldn't be read; the lines before were played (docs/OPERATING.md, \"Exit statuses\")",
-);
+/// What stands for the name of the journal's file in the sentences below.
+pub(crate) const FILE: char = '@';
 
-const DISK_FAULT: Meaning = Meaning::OfJournal {
-    before: "",
-    after: " couldn't be opened, made, read, written or synced; the disk may be full (docs/OPERATING.md, \"A full disk\", \"After a disk fault\")",
-};
+const UNREAD: &str =
+    "standard input couldn't be read; the lines before were played (docs/OPERATING.md, \"Exit statuses\")";
 
-const IN_USE: Meaning = Meaning::OfJournal {
-    before: "another process uses ",
-    after: ", so nothing was done; wait until it ends, or end it (docs/OPERATING.md, \"Exit statuses\")",
-};
+const DISK_FAULT: &str =
+    "@ couldn't be opened, made, read, written or synced; the disk may be full (docs/OPERATING.md, \"A full disk\", \"After a disk fault\")";
 
-const NOT_BLANK: Meaning = Meaning::OfJournal {
-    before: "",
-    after: " is used, mostly by an earlier run; report it, move it away, and run again (docs/OPERATING.md, \"Exit statuses\")",
-};
+const IN_USE: &str =
+    "another process uses @, so nothing was done; wait until it ends, or end it (docs/OPERATING.md, \"Exit statuses\")";
 
-const EMPTY: Meaning = Meaning::OfJournal {
-    before: "",
-    after: " is empty, since its making was broken off; remove it (docs/OPERATING.md, \"Exit statuses\")",
-};
+const NOT_BLANK: &str =
+    "@ is used, mostly by an earlier run; report it, move it away, and run again (docs/OPERATING.md, \"Exit statuses\")";
 
-const OTHER_SIZE: Meaning = Meaning::OfJournal {
-    before: "",
-    after: " hasn't 2097152 bytes, so it is no journal of this program; move it away (docs/OPERATING.md, \"Exit statuses\")",
-};
+const EMPTY: &str =
+    "@ is empty, since its making was broken off; remove it (docs/OPERATING.md, \"Exit statuses\")";
 
-const ALIEN: Meaning = Meaning::OfJournal {
-    before: "",
-    after: " is blank, or another file than a journal (docs/OPERATING.md, \"A journal that isn't right\")",
-};
+const OTHER_SIZE: &str =
+    "@ hasn't 2097152 bytes, so it is no journal of this program; move it away (docs/OPERATING.md, \"Exit statuses\")";
 
-const BAD: Meaning = Meaning::OfJournal {
-    before: "a record of ",
-    after: " can't be read, or doesn't follow those before it; keep the file as it is (docs/OPERATING.md, \"A journal that isn't right\")",
-};
+const ALIEN: &str =
+    "@ is blank, or another file than a journal (docs/OPERATING.md, \"A journal that isn't right\")";
 
-const LOST: Meaning = Meaning::OfJournal {
-    before: "after a power cut ",
-    after: " has another number of records than were put; keep the file as it is (docs/OPERATING.md, \"A journal that isn't right\")",
-};
+const BAD: &str =
+    "a record of @ can't be read, or doesn't follow those before it; keep the file as it is (docs/OPERATING.md, \"A journal that isn't right\")";
 
-const CURRENT: Meaning = Meaning::OfJournal {
-    before: "",
-    after: " is a journal of this version, so there is nothing to do (docs/OPERATING.md, \"An older journal\")",
-};
+const LOST: &str =
+    "after a power cut @ has another number of records than were put; keep the file as it is (docs/OPERATING.md, \"A journal that isn't right\")";
 
-const NO_ROOM: Meaning = Meaning::OfJournal {
-    before: "",
-    after: " has too many records to be brought forward, and is as it was; begin a new journal (docs/OPERATING.md, \"An older journal\")",
-};
+const CURRENT: &str =
+    "@ is a journal of this version, so there is nothing to do (docs/OPERATING.md, \"An older journal\")";
 
-const EPOCH_RUNS: Meaning = Meaning::OfJournal {
-    before: "the acceptor named is started in ",
-    after: ", which is as it was; stop it with the older program first (docs/OPERATING.md, \"An older journal\")",
-};
+const NO_ROOM: &str =
+    "@ has too many records to be brought forward, and is as it was; begin a new journal (docs/OPERATING.md, \"An older journal\")";
 
-/// What a last line means.
-#[derive(Clone, Copy)]
-pub(crate) enum Meaning {
-    /// A sentence.
-    Plain(&'static str),
-    /// A sentence that names the file of the journal between these parts.
-    OfJournal {
-        before: &'static str,
-        after: &'static str,
-    },
-}
+const EPOCH_RUNS: &str =
+    "the acceptor named is started in @, which is as it was; stop it with the older program first (docs/OPERATING.md, \"An older journal\")";
 
 /// The last lines that refuse no line of a script: the word, the field after it, or none where the
 /// word says it all, and the meaning. The first that fits counts.
-static ENDINGS: [(&str, &str, Meaning); 13] = [
-    ("words", "", Meaning::Plain(USAGE)),
+static ENDINGS: [(&str, &str, &str); 13] = [
+    ("words", "", USAGE),
     ("readfault", "", UNREAD),
     ("diskfault", "", DISK_FAULT),
     ("notblank", "", NOT_BLANK),
@@ -111,8 +79,9 @@ static ENDINGS: [(&str, &str, Meaning); 13] = [
     ("upgrade", "epoch", EPOCH_RUNS),
 ];
 
-/// What a last line means that is no refusal of a script's line, by its word and what is after it.
-pub(crate) fn meaning_of(word: &[u8], rest: &[u8]) -> Option<Meaning> {
+/// What a last line means that is no refusal of a script's line, by its word and what is after it:
+/// a sentence in which [`FILE`] may stand for the name of the journal's file.
+pub(crate) fn meaning_of(word: &[u8], rest: &[u8]) -> Option<&'static str> {
     let (field, _) = first_field(rest);
     for (first, second, meaning) in &ENDINGS {
         if first.as_bytes() == word && (second.is_empty() || second.as_bytes() == field) {
