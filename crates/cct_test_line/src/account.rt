@@ -158,23 +158,21 @@ pub(crate) struct Account {
 
 impl Account {
     /// Nothing came yet.
-    pub(crate) fn new() -> Account {
-        Account {
-            mistaken: 0,
-            missed: 0,
-            refused: 0,
-            accepted: AtAcceptors::NONE,
-            posted: AtAcceptors::NONE,
-            lost: 0,
-            fallen: OfOrders::NONE,
-            paid: OfOrders::NONE,
-            ends: Ends::NONE,
-            posted_wrong: 0,
-            closed_wrong: 0,
-            available: 0,
-            reserved: 0,
-        }
-    }
+    pub(crate) const NONE: Account = Account {
+        mistaken: 0,
+        missed: 0,
+        refused: 0,
+        accepted: AtAcceptors::NONE,
+        posted: AtAcceptors::NONE,
+        lost: 0,
+        fallen: OfOrders::NONE,
+        paid: OfOrders::NONE,
+        ends: Ends::NONE,
+        posted_wrong: 0,
+        closed_wrong: 0,
+        available: 0,
+        reserved: 0,
+    };
 
     /// An entry counts, of an attempt over this wire.
     pub(crate) fn add(&mut self, wire: &Wire<'_>, entry: &Entry) {

@@ -22,6 +22,8 @@ use std::test::Fail;
 pub(crate) enum Step {
     /// The operator gives a command.
     Give(Command),
+    /// The hopper at an address is to pay an order with this id, of so many coins.
+    Pay(u8, u32, u8),
     /// The jobs at two addresses make so many attempts each, by turns.
     Turns(u8, u8, u8),
     /// A coin falls into the acceptor at an address.
@@ -84,7 +86,7 @@ pub(crate) fn run(
     let wire = RefCell::new(Wire::new(alloc, setup, late, options.echoes)?);
     let mut port = Port::new(HostEnd { wire: &wire }, options);
     let mut host = started(alloc, setup)?;
-    let mut account = Account::new();
+    let mut account = Account::NONE;
     for step in steps {
         act(&mut host, &mut port, &wire, &mut account, *step)?;
     }
@@ -127,9 +129,11 @@ fn act(
 {
     match step {
         Step::Give(command) => {
-            if host.command(&command).is_err() {
-                raise(&mut account.refused);
-            }
+            give(host, account, &command);
+            Ok(())
+        }
+        Step::Pay(addr, id, count) => {
+            give(host, account, &Command::Pay { addr, id, count });
             Ok(())
         }
         Step::Turns(first, second, turns) => {
@@ -146,6 +150,16 @@ fn act(
             host.restart(None, 0)?;
             Ok(())
         }
+    }
+}
+
+/// The operator gives a command.
+fn give(host: &mut Host<'_, MemDisk>, account: &mut Account, command: &Command)
+    requires { has_failed host.old ≡ false }
+    ensures { has_failed host.new ≡ false }
+{
+    if host.command(command).is_err() {
+        raise(&mut account.refused);
     }
 }
 

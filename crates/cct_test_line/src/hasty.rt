@@ -31,24 +31,17 @@ const ONE_COIN: &[Step] = &[
 /// What comes of it where the reply to the credits of acceptor 2 isn't waited for long enough, and
 /// it is asked again.
 const ONE_POST: Account = Account {
-    mistaken: 0,
     missed: 1,
-    refused: 0,
     accepted: AtAcceptors { at_2: 1, at_5: 0 },
     posted: AtAcceptors { at_2: 1, at_5: 0 },
-    lost: 0,
-    fallen: OfOrders::NONE,
-    paid: OfOrders::NONE,
     ends: Ends {
         started: 2,
         posted: 1,
         other: 1,
         ..Ends::NONE
     },
-    posted_wrong: 0,
-    closed_wrong: 0,
     available: 100,
-    reserved: 0,
+    ..Account::NONE
 };
 
 /// What comes of it where acceptor 5, asked next, is taken to have said that.
@@ -98,16 +91,8 @@ fn a_port_that_waits_too_short_posts_a_coin_twice(rt: HostRuntime) -> Result<(),
 
 /// Both hoppers pay: 3 two coins, and 4 one. They are asked by turns, and all coins fall at once.
 const TWO_ORDERS: &[Step] = &[
-    Step::Give(Command::Pay {
-        addr: 3,
-        id: 1,
-        count: 2,
-    }),
-    Step::Give(Command::Pay {
-        addr: 4,
-        id: 2,
-        count: 1,
-    }),
+    Step::Pay(3, 1, 2),
+    Step::Pay(4, 2, 1),
     Step::Turns(4, 3, 4),
     Step::Falls(3, 1, 2),
     Step::Falls(4, 2, 1),

@@ -38,16 +38,8 @@ const ROUND: &[Step] = &[
 /// Hopper 3 pays two coins and hopper 4 three, in 6 exchanges up to the dispense, 2 while coins
 /// fall, and 4 up to the end.
 const PAY: &[Step] = &[
-    Step::Give(Command::Pay {
-        addr: 3,
-        id: 1,
-        count: 2,
-    }),
-    Step::Give(Command::Pay {
-        addr: 4,
-        id: 2,
-        count: 3,
-    }),
+    Step::Pay(3, 1, 2),
+    Step::Pay(4, 2, 3),
     Step::Turns(3, 4, 4),
     Step::Falls(3, 1, 1),
     Step::Turns(3, 4, 1),
@@ -59,16 +51,8 @@ const PAY: &[Step] = &[
 /// Each hopper is to pay three coins, and is halted after one, in 8 exchanges up to the halt and 6
 /// after it.
 const HALT: &[Step] = &[
-    Step::Give(Command::Pay {
-        addr: 3,
-        id: 3,
-        count: 3,
-    }),
-    Step::Give(Command::Pay {
-        addr: 4,
-        id: 4,
-        count: 3,
-    }),
+    Step::Pay(3, 3, 3),
+    Step::Pay(4, 4, 3),
     Step::Turns(3, 4, 5),
     Step::Falls(3, 3, 1),
     Step::Falls(4, 4, 1),
@@ -80,16 +64,8 @@ const HALT: &[Step] = &[
 /// Each hopper is to pay two coins when the power of the host is cut, and both orders are settled,
 /// in 8 exchanges before the cut and 4 after it.
 const SETTLE: &[Step] = &[
-    Step::Give(Command::Pay {
-        addr: 3,
-        id: 5,
-        count: 2,
-    }),
-    Step::Give(Command::Pay {
-        addr: 4,
-        id: 6,
-        count: 2,
-    }),
+    Step::Pay(3, 5, 2),
+    Step::Pay(4, 6, 2),
     Step::Turns(3, 4, 5),
     Step::Falls(3, 5, 1),
     Step::Restart,
@@ -142,25 +118,20 @@ pub(crate) const EXCHANGES: u64 = 146;
 /// How the jobs of a day end.
 pub(crate) const ENDS: Ends = Ends {
     started: 2,
-    unsure: 0,
     posted: 2,
     paths: 2,
     closed: 6,
     told: 4,
     listed: 4,
     stopped: 2,
-    other: 0,
+    ..Ends::NONE
 };
 
 /// What comes of a day, by hand: five coins of 100 are posted, and of six orders eleven coins of 10
 /// are paid.
 pub(crate) const DAY: Account = Account {
-    mistaken: 0,
-    missed: 0,
-    refused: 0,
     accepted: AtAcceptors { at_2: 3, at_5: 2 },
     posted: AtAcceptors { at_2: 3, at_5: 2 },
-    lost: 0,
     fallen: OfOrders {
         coins: [2, 3, 1, 1, 2, 2],
     },
@@ -168,8 +139,6 @@ pub(crate) const DAY: Account = Account {
         coins: [2, 3, 1, 1, 2, 2],
     },
     ends: ENDS,
-    posted_wrong: 0,
-    closed_wrong: 0,
     available: 390,
-    reserved: 0,
+    ..Account::NONE
 };
