@@ -97,23 +97,15 @@ fits_seen d past _ (elsewhere e meets_are own_are) fits =
     (subst (λ ls. Fits d (met d past) (ls ++ lines_of d past)) (sym own_are) fits)
 
 -- no fewer coins have fallen later
-grows_comes : (d : DeviceSetup) (ms : List Met) (lines : List Line) (s : Step) (e : Entry) (m : Met) (ls : List Line) →
-    Comes d ms s e m ls → all_fallen lines ≤ all_fallen (ls ++ lines)
-grows_comes d ms lines _ _ _ _ (takes_coin place body lets) = omega arith
-grows_comes d ms lines _ _ _ _ (leaves_coin place body out) = omega arith
-grows_comes d ms lines _ _ _ _ (takes_bill place banking kept) = omega arith
-grows_comes d ms lines _ _ _ _ (leaves_bill place banking back) = omega arith
-grows_comes d ms lines _ _ _ _ (leaves_alien body) = omega arith
-grows_comes d ms lines _ _ _ _ (drops_coin paying some) = omega arith
-grows_comes d ms lines _ _ _ _ (drops_none paying none) = omega arith
-grows_comes d ms lines _ _ _ _ (jams paying some) = omega arith
-grows_comes d ms lines _ _ _ _ (jams_none paying none) = omega arith
-grows_comes d ms lines _ _ _ _ is_reset = omega arith
+grows_by : (lines ls : List Line) → all_fallen lines ≤ all_fallen (ls ++ lines)
+grows_by lines [] = omega arith
+grows_by lines (line.fell ∷ ls) = let more = grows_by lines ls in omega (arith, more)
+grows_by lines (l ∷ ls) = grows_by lines ls
 
 grows_seen : (d : DeviceSetup) (past : List Entry) (e : Entry) → Seen d past e → fallen d past ≤ fallen d (e ∷ past)
 grows_seen d past _ (here s e m ls range at meets_are own_are) =
     subst (λ ls. fallen d past ≤ all_fallen (ls ++ lines_of d past)) (sym own_are)
-    (grows_comes d (met d past) (lines_of d past) s e m ls at)
+    (grows_by (lines_of d past) ls)
 grows_seen d past _ (elsewhere e meets_are own_are) =
     subst (λ ls. fallen d past ≤ all_fallen (ls ++ lines_of d past)) (sym own_are) (omega arith)
 

@@ -1,6 +1,6 @@
 -- Each entry of a run of any host: something came to a device, the host did nothing that a device hears, or any bytes were
 -- sent.
-use Rattle.std.proofs.Common.{◌≡◌, ◌≢◌, ℕ, suc, ◌≤◌, ◌==◌, cond, length, arith, false, List, [], ◌∷◌, ◌++◌, refl, sym, subst, eq-eqb, inl, inr}
+use Rattle.std.proofs.Common.{◌≡◌, ◌≢◌, ℕ, suc, ◌≤◌, ◌==◌, cond, length, arith, false, List, [], ◌∷◌, ◌++◌, refl, sym, subst, eq-eqb, inl, inr, ap, ◌∙◌}
 use Rattle.std.specs.Prelude.{⊤}
 use Rattle.std.proofs.lemmas.Bool.{ne_eqb}
 use Rattle.cct_model.specs.terms.device.DeviceSetup.{DeviceSetup}
@@ -17,7 +17,8 @@ use Rattle.cct_model.specs.Script.{IsInRange}
 use Rattle.cct_model.specs.Transcript.{heard_after, meets, met, own}
 use Rattle.cct_laws.specs.Law.{IsOf}
 use Rattle.cct_laws.proofs.setups.DeviceAt.{same_or_other}
-use Rattle.cct_laws.proofs.jobs.StepBrings.{AtDevice, came, took, halted, idled, made_exchange, made_put, Brought, of_device, faulted, refused, began_scan, began_sale, nobody, polled, sold, balanced, of_desk, ended_short, lost_power, lost_in_put, lost_in_sale, brought, told_of, Comes, takes_coin, leaves_coin, takes_bill, leaves_bill, leaves_alien, drops_coin, drops_none, jams, jams_none, is_reset, IsOfDesk, tells_stock, begins_change, keeps_change, serves_none, serves_later, serves_odd, serves_all, serves_short}
+use Rattle.cct_laws.proofs.jobs.SeenAtOne.{loose, loose_met}
+use Rattle.cct_laws.proofs.jobs.StepBrings.{IsOfNoJob, came_of_no_job, AtDevice, came, took, halted, idled, made_exchange, made_put, Brought, of_device, faulted, refused, began_scan, began_sale, nobody, polled, sold, balanced, of_desk, ended_short, lost_power, lost_in_put, lost_in_sale, brought, told_of, Comes, IsOfDesk, tells_stock, begins_change, keeps_change, serves_none, serves_later, serves_odd, serves_all, serves_short}
 use Rattle.cct_audit_taps.specs.Taps.{Tap}
 use Rattle.cct_laws_any_host.specs.Wild.{WildStep, outside, exchange, IsOutside, WildEntries, WildFrom, before_tap, taps}
 
@@ -100,44 +101,16 @@ pub data Seen (d : DeviceSetup) (past : List Entry) : Entry → Type 0 where
 
 comes_here : (d : DeviceSetup) (past : List Entry) (s : Step) (e : Entry) (m : Met) (ls : List Line) → IsInRange s →
     Comes d (met d past) s e m ls → Seen d past e
-comes_here d past _ _ _ _ range (takes_coin place accepting lets) =
-    here _ _ _ _ range (takes_coin place accepting lets) (rw (eq-eqb d.addr d.addr refl) refl)
-    (rw (eq-eqb d.addr d.addr refl) refl)
-comes_here d past _ _ _ _ range (leaves_coin place accepting keeps_out) =
-    here _ _ _ _ range (leaves_coin place accepting keeps_out) (rw (eq-eqb d.addr d.addr refl) refl)
-    (rw (eq-eqb d.addr d.addr refl) refl)
-comes_here d past _ _ _ _ range (takes_bill place banking keeps_it) =
-    here _ _ _ _ range (takes_bill place banking keeps_it) (rw (eq-eqb d.addr d.addr refl) refl) refl
-comes_here d past _ _ _ _ range (leaves_bill place banking gives_back) =
-    here _ _ _ _ range (leaves_bill place banking gives_back) (rw (eq-eqb d.addr d.addr refl) refl)
-    (rw (eq-eqb d.addr d.addr refl) refl)
-comes_here d past _ _ _ _ range (leaves_alien accepting) =
-    here _ _ _ _ range (leaves_alien accepting) (rw (eq-eqb d.addr d.addr refl) refl)
-    (rw (eq-eqb d.addr d.addr refl) refl)
-comes_here d past _ _ _ _ range (drops_coin paying some) =
-    here _ _ _ _ range (drops_coin paying some) (rw (eq-eqb d.addr d.addr refl) refl)
-    (rw (eq-eqb d.addr d.addr refl) refl)
-comes_here d past _ _ _ _ range (drops_none paying none) =
-    here _ _ _ _ range (drops_none paying none) (rw (eq-eqb d.addr d.addr refl) refl) refl
-comes_here d past _ _ _ _ range (jams paying some) =
-    here _ _ _ _ range (jams paying some) (rw (eq-eqb d.addr d.addr refl) refl) refl
-comes_here d past _ _ _ _ range (jams_none paying none) =
-    here _ _ _ _ range (jams_none paying none) (rw (eq-eqb d.addr d.addr refl) refl) refl
-comes_here d past _ _ _ _ range is_reset =
-    here _ _ _ _ range is_reset (rw (eq-eqb d.addr d.addr refl) refl) (rw (eq-eqb d.addr d.addr refl) refl)
+comes_here d past s e m ls range at =
+    let is = loose d (met d past) s e m ls at in
+    here s e m ls range at (loose_met d past s e m ls is)
+    (is.own_is d past ∙ ap (λ b. cond b ls []) (eq-eqb d.addr d.addr refl))
 
 comes_there : (d other : DeviceSetup) (past : List Entry) (before : List Met) (s : Step) (e : Entry) (m : Met)
     (ls : List Line) → (other.addr == d.addr) ≡ false → Comes other before s e m ls → Seen d past e
-comes_there d other past before _ _ _ _ test (takes_coin place accepting lets) = elsewhere _ (rw test refl) (rw test refl)
-comes_there d other past before _ _ _ _ test (leaves_coin place accepting out) = elsewhere _ (rw test refl) (rw test refl)
-comes_there d other past before _ _ _ _ test (takes_bill place banking keeps_it) = elsewhere _ (rw test refl) refl
-comes_there d other past before _ _ _ _ test (leaves_bill place banking back) = elsewhere _ (rw test refl) (rw test refl)
-comes_there d other past before _ _ _ _ test (leaves_alien accepting) = elsewhere _ (rw test refl) (rw test refl)
-comes_there d other past before _ _ _ _ test (drops_coin paying some) = elsewhere _ (rw test refl) (rw test refl)
-comes_there d other past before _ _ _ _ test (drops_none paying none) = elsewhere _ (rw test refl) refl
-comes_there d other past before _ _ _ _ test (jams paying some) = elsewhere _ (rw test refl) refl
-comes_there d other past before _ _ _ _ test (jams_none paying none) = elsewhere _ (rw test refl) refl
-comes_there d other past before _ _ _ _ test is_reset = elsewhere _ (rw test refl) (rw test refl)
+comes_there d other past before s e m ls test at =
+    let is = loose other before s e m ls at in
+    elsewhere e (is.meets_is d past ∙ ap (λ b. cond b (m ∷ []) []) test) (is.own_is d past ∙ ap (λ b. cond b ls []) test)
 
 pub comes_to : (setup : Setup) (d other : DeviceSetup) (past : List Entry) (s : Step) (e : Entry) (m : Met)
     (ls : List Line) → IsOf setup d → IsOf setup other → IsInRange s → Comes other (met other past) s e m ls →
@@ -149,19 +122,15 @@ comes_to setup d other past s e m ls own_one own_other range at =
     ]
 
 -- what comes is no exchange
+untapped : (e : Entry) (past : List Entry) (P : (ℕ → List Entry) → List Tap → Type 0) → IsOfNoJob e →
+    P (λ n. before_tap n past) (taps past) → P (λ n. before_tap n (e ∷ past)) (taps (e ∷ past))
+untapped (entry.Wire addr sent piece) past P is p = absurd is
+untapped e past P is p = p
+
 pub no_tap : (d : DeviceSetup) (before : List Met) (s : Step) (e : Entry) (m : Met) (ls : List Line)
     (past : List Entry) (P : (ℕ → List Entry) → List Tap → Type 0) → Comes d before s e m ls →
     P (λ n. before_tap n past) (taps past) → P (λ n. before_tap n (e ∷ past)) (taps (e ∷ past))
-no_tap d before _ _ _ _ past P (takes_coin place accepting lets) p = p
-no_tap d before _ _ _ _ past P (leaves_coin place accepting out) p = p
-no_tap d before _ _ _ _ past P (takes_bill place banking keeps_it) p = p
-no_tap d before _ _ _ _ past P (leaves_bill place banking back) p = p
-no_tap d before _ _ _ _ past P (leaves_alien accepting) p = p
-no_tap d before _ _ _ _ past P (drops_coin paying some) p = p
-no_tap d before _ _ _ _ past P (drops_none paying none) p = p
-no_tap d before _ _ _ _ past P (jams paying some) p = p
-no_tap d before _ _ _ _ past P (jams_none paying none) p = p
-no_tap d before _ _ _ _ past P is_reset p = p
+no_tap d before s e m ls past P at p = untapped e past P (came_of_no_job d before s e m ls at) p
 
 -- the moment of the last tap, and those of the taps before it
 pub at_last : (n : ℕ) (past : List Entry) (earlier : List Entry) → n ≡ suc (length (taps past)) →
