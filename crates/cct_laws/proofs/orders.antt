@@ -1,4 +1,5 @@
 -- What holds of a hopper: its orders and payouts, and the ids of orders and sales.
+pub mod Closes
 pub mod Commands
 pub mod HopperReplies
 pub mod Ids

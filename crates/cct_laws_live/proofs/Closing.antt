@@ -27,6 +27,7 @@ use Rattle.cct_laws_live.specs.Closes.{ClosedBy, CloseOf, Settles, WasOpened, li
 use Rattle.cct_laws_live.specs.Posts.{Has, HasOver, HaveInTurn, since_taken}
 use Rattle.cct_laws_live.proofs.InTurn.{AreQuiet, AsksFirst, FitsForm, IsAsk, IsPlain, IsQuiet, Obeys, PutsFirst, back, has_front, less, quiet_stay, read_back}
 use Rattle.cct_laws_live.proofs.Posting.{Within, has_all, turn_within, within_more, newest}
+use Rattle.cct_laws.proofs.orders.Closes.{closes_so}
 
 -- a row waits for a payout
 abbrev IsWait : List TableRow → Type 0
@@ -353,24 +354,13 @@ over_count : (a count : ℕ) → nat_le a count ≡ false → count < a
 over_count a count over = grind (arith, nat_tests)
 
 close_settles : (o : OpenOrder) (life : ℕ) → Settles o life (close o life)
-unfolding close
-close_settles o life = by_test (nat_le (life_between o.life life) o.count) refl
-  where
-    by_test : (fits : Bool) → nat_le (life_between o.life life) o.count ≡ fits → Settles o life (cond fits
-        (record_of.Closed o.id (life_between o.life life) (o.count - life_between o.life life))
-        (record_of.Odd o.id o.life life))
-    by_test true test = (refl, refl, fits_count (life_between o.life life) o.count test)
-    by_test false test = (refl, refl, refl, over_count (life_between o.life life) o.count test)
+close_settles o life =
+    closes_so (Settles o life) o life
+    (λ fits. (refl, refl, fits_count (life_between o.life life) o.count fits))
+    (λ over. (refl, refl, refl, over_count (life_between o.life life) o.count over))
 
 close_is : (o : OpenOrder) (life : ℕ) → IsClosing (close o life)
-unfolding close
-close_is o life = by_test (nat_le (life_between o.life life) o.count)
-  where
-    by_test : (fits : Bool) → IsClosing (cond fits
-        (record_of.Closed o.id (life_between o.life life) (o.count - life_between o.life life))
-        (record_of.Odd o.id o.life life))
-    by_test true = tt
-    by_test false = tt
+close_is o life = closes_so IsClosing o life (λ fits. tt) (λ over. tt)
 
 settled_by : (lines : List Line) (o : OpenOrder) (life : ℕ) (r : Record) → order lines ≡ Some o →
     EndsHeard (since_sent lines) life → Settles o life r → ClosedBy WasOpened lines r

@@ -1,6 +1,6 @@
 -- A job that has a reading to put heard its four replies in turn, whatever the wire does: the accept counter, the credits,
 -- the inhibit mask, and the accept counter again.
-use Rattle.std.proofs.Common.{◌≡◌, ℕ, zero, suc, nat_le, ◌-◌, ◌⊎◌, cond, true, false, Bool, List, [], ◌∷◌, ◌++◌, refl, ap, sym, ◌∙◌, subst, Option, Some, None, inl, inr, arith, true≢false}
+use Rattle.std.proofs.Common.{◌≡◌, ℕ, zero, suc, ◌⊎◌, cond, true, false, Bool, List, [], ◌∷◌, ◌++◌, refl, ap, sym, ◌∙◌, subst, Option, Some, None, inl, inr, arith, true≢false}
 use Rattle.std.specs.Prelude.{⊤, option_and_then}
 use Rattle.std.specs.Option.{option_or}
 use Rattle.cct_model.specs.terms.coin.Credits.{Credits}
@@ -24,7 +24,7 @@ use Rattle.cct_model.specs.Reply.{Reply, reply_in}
 use Rattle.cct_model.specs.Reply as reply
 use Rattle.cct_model.specs.Exchange.{after_echo, asked, got, reply_from}
 use Rattle.cct_model.specs.Line.{Line, exchange, put, restarted, taken}
-use Rattle.cct_model.specs.Order.{close, life_between}
+use Rattle.cct_model.specs.Order.{close}
 use Rattle.cct_model.specs.Job.{sends, puts, Noted, noted_in, state_row, judged_in, address_of, credits_request, ident_requests, settled_events, credits_line, credits_read, mask_line, mask_read, accepts_line, accepts_read, at_credits, accepts_before}
 use Rattle.cct_model.specs.Rows.{Due, new_epoch, reading, epoch_end, new_order, order_end, sale, TableRow, asks_for, asks_once, waits_for_coins, puts_due, rows_of, after, from, first, rest, row, row_at, done, ends_first}
 use Rattle.cct_model.specs.Transcript.{got_by}
@@ -34,6 +34,7 @@ use Rattle.cct_model.proofs.Tries.{due_sends, same_request}
 use Rattle.cct_msg.specs.Forms.{form_shown}
 use Rattle.cct_msg.proofs.Replies.{reply_form}
 use Rattle.cct_laws_live.specs.Posts.{HasOver, HaveInTurn, as_judged, credits_heard, mask_heard, accepts_heard}
+use Rattle.cct_laws.proofs.orders.Closes.{closes_so}
 
 -- what the first of these rows asks, and that it puts a record
 abbrev pub AsksFirst : List TableRow → Option Request → Type 0
@@ -391,14 +392,7 @@ is_other (sale id price) = false
 is_other due = true
 
 close_none : (o : OpenOrder) (life : ℕ) → IsReading (close o life) → ⊥
-unfolding close
-close_none o life = by_test (nat_le (life_between o.life life) o.count)
-  where
-    by_test : (fits : Bool) → IsReading (cond fits
-        (record_of.Closed o.id (life_between o.life life) (o.count - life_between o.life life))
-        (record_of.Odd o.id o.life life)) → ⊥
-    by_test true reads = reads
-    by_test false reads = reads
+close_none o life = closes_so (λ r. IsReading r → ⊥) o life (λ fits reads. reads) (λ over reads. reads)
 
 pub other_none : (d : DeviceSetup) (c : Command) (n : ℕ) (means : Judged) (p : Noted) (r : Record) →
     puts_only is_other (rows_of d c) ≡ true → row_at d c n means p ≡ puts r → IsReading r → ⊥

@@ -1,6 +1,6 @@
 -- What is posted was heard, whatever the wire does: a job puts what it judged of the lines that it read, and these are among
 -- those of its address.
-use Rattle.std.proofs.Common.{◌≡◌, ℕ, ◌-◌, ◌==◌, ◌&&◌, ◌||◌, nat_le, not, cond, true, false, Bool, List, [], ◌∷◌, ◌++◌, length, refl, ap, sym, ◌∙◌, subst, Option, Some, None, ◌⊎◌, inl, inr, eqb-true}
+use Rattle.std.proofs.Common.{◌≡◌, ℕ, ◌-◌, ◌==◌, ◌&&◌, ◌||◌, not, cond, true, false, Bool, List, [], ◌∷◌, ◌++◌, length, refl, ap, sym, ◌∙◌, subst, Option, Some, None, ◌⊎◌, inl, inr, eqb-true}
 use Rattle.std.specs.Prelude.{⊤}
 use Rattle.std.specs.Option.{option_or}
 use Rattle.cct_model.specs.terms.coin.Coin.{Coin}
@@ -25,7 +25,7 @@ use Rattle.cct_model.specs.Setup.{IsSoundSetup}
 use Rattle.cct_model.specs.Reply as reply
 use Rattle.cct_model.specs.Line.{Line, exchange, scanned, put, taken, ended, restarted}
 use Rattle.cct_model.specs.Legal.{Legal}
-use Rattle.cct_model.specs.Order.{order, close, life_between}
+use Rattle.cct_model.specs.Order.{order, close}
 use Rattle.cct_model.specs.Reading.{distance, posted_of, shows_break, shows_move, accepted_between, judge}
 use Rattle.cct_model.specs.Job.{Job, free, works, job, with_line, epoch, puts, address_of, judged_by, judged_in, noted_in, credits_read, mask_read, accepts_line, accepts_read, accepts_before}
 use Rattle.cct_model.specs.Rows.{Due, new_epoch, reading, epoch_end, new_order, order_end, sale, row, rows_of, done}
@@ -34,6 +34,7 @@ use Rattle.cct_model.proofs.Doses.{job_undosed}
 use Rattle.cct_model.proofs.Rows.{RowHolds, JudgedHolds, DueHolds, is_at_device, device_puts, each_put}
 use Rattle.cct_laws.specs.Ids.{Ids}
 use Rattle.cct_laws.specs.Law.{IsOf, EachEntry}
+use Rattle.cct_laws.proofs.orders.Closes.{closes_so}
 use Rattle.cct_laws.proofs.jobs.StepBrings.{AtWork, AtDevice, came, took, halted, idled, made_exchange, made_put, Brought, wire_of, wire_end, record_end, row_after, begun_at_work}
 use Rattle.cct_laws.proofs.jobs.SeenAtOne.{Lost, bare, kept_here, kept_elsewhere, seen_here, seen_aside, seen_lost, seen_from, along, passed_job, loose, loose_line, lines_wire, lines_with_end, lines_put, lines_taken, lines_kept, lines_kept_elsewhere}
 use Rattle.cct_laws.proofs.jobs.EntriesOfStep.{any_steps}
@@ -213,14 +214,7 @@ judged_by_posts body lines since addr Idle credits seen before now within runs r
 
 -- the record that closes an order posts nothing
 close_posts : (body : DeviceBody) (lines : List Line) (o : OpenOrder) (life : ℕ) → PostOf body lines (close o life)
-unfolding close
-close_posts body lines o life = by_test (nat_le (life_between o.life life) o.count)
-  where
-    by_test : (fits : Bool) → PostOf body lines (cond fits
-        (record_of.Closed o.id (life_between o.life life) (o.count - life_between o.life life))
-        (record_of.Odd o.id o.life life))
-    by_test true = tt
-    by_test false = tt
+close_posts body lines o life = closes_so (PostOf body lines) o life (λ fits. tt) (λ over. tt)
 
 -- so it is of what the row of a job puts
 row_posts : (lines : List Line) (d : DeviceSetup) (c : Command) (since : List Line) (owed : Option OpenOrder) →

@@ -1,6 +1,6 @@
 -- A hopper posts nothing: no line of it shows money that was taken, so each is in order, and none
 -- is lost at it in silence. So that holds of every device of a setup, of any kind.
-use Rattle.std.proofs.Common.{refl, ◌≡◌, ℕ, ◌-◌, nat_le, cond, Bool, true, false, List, ◌∷◌, ◌++◌, subst, Option, Some, None, All, inl, inr, sym, ap, ◌∙◌}
+use Rattle.std.proofs.Common.{refl, ◌≡◌, ℕ, cond, Bool, true, false, List, ◌∷◌, ◌++◌, subst, Option, Some, None, All, inl, inr, sym, ap, ◌∙◌}
 use Rattle.std.specs.Prelude.{⊤}
 use Rattle.cct_model.specs.terms.device.DeviceBody.{DeviceBody}
 use Rattle.cct_model.specs.terms.device.DeviceBody.TheVariants.{Acceptor, Bill, Hopper}
@@ -28,7 +28,7 @@ use Rattle.cct_model.specs.Job.{Noted, noted_in, judged_in, epoch, puts, ident_r
 use Rattle.cct_model.specs.Rows.{row, end_of, done, Due, new_order, rows_of, order_end}
 use Rattle.cct_model.specs.Legal.{Legal}
 use Rattle.cct_model.specs.Line.{Line, exchange, put, restarted}
-use Rattle.cct_model.specs.Order.{order, close, life_between}
+use Rattle.cct_model.specs.Order.{order, close}
 use Rattle.cct_model.specs.Script.{IsInRange}
 use Rattle.cct_model.specs.Setup.{IsSoundSetup}
 use Rattle.cct_model.specs.Transcript.{dispensed_by, doses}
@@ -37,6 +37,7 @@ use Rattle.cct_laws.specs.KeptHopper.{IsKeptHopper}
 use Rattle.cct_laws.specs.Law.{IsOf, lines_in}
 use Rattle.cct_laws.specs.Scope.{EachHopper}
 use Rattle.cct_laws.specs.Tallying.{AlwaysTallies}
+use Rattle.cct_laws.proofs.orders.Closes.{closes_so}
 use Rattle.cct_laws.proofs.acceptor.Acceptors.{put_other}
 use Rattle.cct_laws.proofs.steps.EitherKind.{for_hopper, kind_of}
 use Rattle.cct_laws.proofs.acceptor.Moves.{IfOther, IsOtherEnd, failure_other}
@@ -69,14 +70,7 @@ coinless_put lines r of_order less = absurd of_order
 
 -- the rows of a hopper's jobs put no others
 close_of_order : (o : OpenOrder) (life : ℕ) → IsOfOrder (close o life)
-unfolding close
-close_of_order o life = by_test (nat_le (life_between o.life life) o.count)
-  where
-    by_test : (fits : Bool) → IsOfOrder (cond fits
-        (record_of.Closed o.id (life_between o.life life) (o.count - life_between o.life life))
-        (record_of.Odd o.id o.life life))
-    by_test true = tt
-    by_test false = tt
+close_of_order o life = closes_so IsOfOrder o life (λ fits. tt) (λ over. tt)
 
 abbrev is_order_due : Due → Bool
 is_order_due (new_order id count) = true

@@ -1,6 +1,6 @@
 -- What a row of a job at a device puts fits the records before it, where the job has what it needs, and follows them
 -- where its money is available.
-use Rattle.std.proofs.Common.{◌≡◌, ℕ, ◌+◌, ◌-◌, ◌≤◌, ◌==◌, ◌&&◌, not, nat_le, Bool, true, false, cond, List, [], ◌∷◌, refl, ap, sym, ◌∙◌, subst, Option, Some, None, is_none, arith, rules, le-leb, eq-eqb, leb-true}
+use Rattle.std.proofs.Common.{◌≡◌, ℕ, ◌+◌, ◌-◌, ◌≤◌, ◌==◌, ◌&&◌, not, Bool, true, false, cond, List, [], ◌∷◌, refl, ap, sym, ◌∙◌, subst, Option, Some, None, is_none, arith, rules, le-leb, eq-eqb, leb-true}
 use Rattle.std.specs.Prelude.{⊤}
 use Rattle.std.specs.List.{list_any}
 use Rattle.std.specs.Option.{option_map}
@@ -31,6 +31,7 @@ use Rattle.cct_model.specs.Following.{is_running, has_values, count_of, follows}
 use Rattle.cct_model.specs.Paid.{uses}
 use Rattle.cct_model.specs.Script.{IsCommand}
 use Rattle.cct_laws.specs.DeviceJobs.{suits}
+use Rattle.cct_laws.proofs.orders.Closes.{closes_so}
 use Rattle.cct_laws.proofs.orders.Orders.{Belongs}
 use Rattle.cct_model.proofs.Rows.{RowHolds, DueHolds, JudgedHolds, judged_holds, EachRow, each_from, each_left, each_told, fact_from, state_holds, due_holds}
 
@@ -187,20 +188,12 @@ opens setup before d addr id count life state owed at kind id_least least none u
 -- an order that is closed
 closes : (setup : Setup) (before : List Record) (addr : ℕ) (o : OpenOrder) (life : ℕ) → Belongs setup before →
     order_in addr before ≡ Some o → Fits setup before (close o life)
-unfolding close
 closes setup before addr o life belongs is =
-    by_test (nat_le (life_between o.life life) o.count) refl
-  where
-    by_test : (fits : Bool) → nat_le (life_between o.life life) o.count ≡ fits →
-        Fits setup before (cond fits
-        (record_of.Closed o.id (life_between o.life life) (o.count - life_between o.life life))
-        (record_of.Odd o.id o.life life))
-    by_test true test =
-        let own = belongs.owned addr o is in
-        let most = leb-true (life_between o.life life) o.count test in
-        let all : life_between o.life life + (o.count - life_between o.life life) ≡ o.count = omega (arith, most) in
-        and_from _ _ own.is_open (eq-eqb _ _ (all ∙ sym (ap count_of own.named)))
-    by_test false test = (belongs.owned addr o is).is_open
+    let own = belongs.owned addr o is in
+    closes_so (Fits setup before) o life (λ test.
+    let most = leb-true (life_between o.life life) o.count test in
+    let all : life_between o.life life + (o.count - life_between o.life life) ≡ o.count = omega (arith, most) in
+    and_from _ _ own.is_open (eq-eqb _ _ (all ∙ sym (ap count_of own.named)))) (λ over. own.is_open)
 
 -- what was judged fits where an epoch runs
 abbrev JudgedFits : Setup → List Record → ℕ → Judged → Type 0

@@ -1,6 +1,6 @@
 -- How many records the rows of a job hold, after one line more: a put leaves one less, an exchange and a halt no more,
 -- and a command brings no more than it wants room for.
-use Rattle.std.proofs.Common.{◌≡◌, ◌≢◌, ℕ, suc, ◌+◌, ◌-◌, ◌≤◌, nat_le, Bool, true, false, cond, List, [], ◌∷◌, ◌++◌, refl, ap, sym, ◌∙◌, subst, Option, Some, None, arith, rules}
+use Rattle.std.proofs.Common.{◌≡◌, ◌≢◌, ℕ, suc, ◌+◌, ◌≤◌, Bool, true, false, cond, List, [], ◌∷◌, ◌++◌, refl, ap, sym, ◌∙◌, subst, Option, Some, None, arith, rules}
 use Rattle.std.specs.Prelude.{⊤, is_some}
 use Rattle.cct_model.specs.terms.coin.Coin.{Coin}
 use Rattle.cct_model.specs.terms.coin.Credits.{Credits}
@@ -17,7 +17,7 @@ use Rattle.cct_model.specs.declared.judging.EpochState.TheVariants.{Running}
 use Rattle.cct_model.specs.declared.judging.OpenOrder.{OpenOrder}
 use Rattle.cct_model.specs.Reply.{Reply}
 use Rattle.cct_model.specs.Line.{Line, exchange, put, taken}
-use Rattle.cct_model.specs.Order.{order_by, life_between, close}
+use Rattle.cct_model.specs.Order.{order_by, close}
 use Rattle.cct_model.specs.Reading.{judge}
 use Rattle.cct_model.specs.Job.{Job, free, works, with_line, sends, puts, no_row, put_or, begin_row, close_row, Noted, end_of_close, judged_by, judged_in, noted_in, credits_read, mask_read, accepts_before, accepts_read, address_of, epoch_by, ident_requests}
 use Rattle.cct_model.specs.Rows.{Then, ends_as, Due, new_epoch, reading, epoch_end, new_order, order_end, sale, TableRow, asks_for, asks_once, waits_for_coins, puts_due, rows_of, rows_of_sale, from, done, rest, left, first, due_row, row, end_kept, end_of, puts_in, has_closes, closes_order, need_in}
@@ -25,6 +25,7 @@ use Rattle.cct_model.specs.Refusal.{job_holds, order_holds, need_for}
 use Rattle.cct_model.proofs.Rows.{but_first, after_none, after_next, after_line, fact_after, fact_from, EachBefore, before_on, told_fact}
 use Rattle.cct_model.proofs.Tries.{due_sends, left_asks}
 use Rattle.cct_laws.specs.KeptHopper.{IsOwed}
+use Rattle.cct_laws.proofs.orders.Closes.{closes_so}
 
 -- what a reading was judged to be is a reading or a break
 abbrev pub IsReading : Judged → Type 0
@@ -103,14 +104,9 @@ pub record ClosesOrder (r : Record) : Type 0 where
   pub ends : end_of_close r ≢ None
 
 close_closes : (o : OpenOrder) (life : ℕ) → ClosesOrder (close o life)
-unfolding close
-close_closes o life = by_test (nat_le (life_between o.life life) o.count)
-  where
-    by_test : (fits : Bool) →
-        ClosesOrder (cond fits (record_of.Closed o.id (life_between o.life life) (o.count - life_between o.life life))
-        (record_of.Odd o.id o.life life))
-    by_test true = record { none = λ owed. refl; ends = λ none. absurd cc }
-    by_test false = record { none = λ owed. refl; ends = λ none. absurd cc }
+close_closes o life =
+    closes_so ClosesOrder o life (λ fits. record { none = λ owed. refl; ends = λ none. absurd cc })
+    (λ over. record { none = λ owed. refl; ends = λ none. absurd cc })
 
 pub close_row_closes : (owed : Option OpenOrder) (life : Option ℕ) (r : Record) → close_row owed life ≡ puts r →
     ClosesOrder r

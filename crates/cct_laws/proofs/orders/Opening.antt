@@ -1,6 +1,6 @@
 -- Which ids the rows of jobs at devices put into records: an order is opened by the row that is to open one, with that
 -- row's id, and no row records a sale.
-use Rattle.std.proofs.Common.{◌≡◌, ℕ, ◌-◌, nat_le, cond, Bool, true, false, List, [], ◌∷◌, refl, ap, sym, ◌∙◌, Some, None, Option, rules}
+use Rattle.std.proofs.Common.{◌≡◌, ℕ, List, [], ◌∷◌, refl, ap, sym, ◌∙◌, Some, None, Option, rules}
 use Rattle.std.proofs.lemmas.Option.{none-some}
 use Rattle.std.specs.Prelude.{⊤}
 use Rattle.cct_model.specs.terms.device.DeviceSetup.{DeviceSetup}
@@ -13,10 +13,11 @@ use Rattle.cct_model.specs.declared.judging.Judged.{Judged}
 use Rattle.cct_model.specs.declared.judging.Judged.TheVariants.{Nothing, Reading, Broken}
 use Rattle.cct_model.specs.declared.judging.OpenOrder.{OpenOrder}
 use Rattle.cct_model.specs.Line.{Line}
-use Rattle.cct_model.specs.Order.{close, life_between}
+use Rattle.cct_model.specs.Order.{close}
 use Rattle.cct_model.specs.Job.{credits_read, mask_read, accepts_before, accepts_read, ident_requests, Noted, judged_in, noted_in, address_of}
 use Rattle.cct_model.specs.Rows.{id_ahead, row, Due, TableRow, asks_for, asks_once, waits_for_coins, puts_due, new_order, rows_of, from, rest, left, first, done, sale, new_epoch, reading, epoch_end, order_end, Then}
 use Rattle.cct_model.proofs.Rows.{RowHolds, EachRow, each_told, each_left, JudgedHolds, judged_holds, due_holds, state_holds, DueHolds, but_first}
+use Rattle.cct_laws.proofs.orders.Closes.{closes_so}
 use Rattle.cct_laws.proofs.jobs.AwaitedRecords.{OneId, one_id, one_after}
 
 -- the first of these rows is to open an order of so many coins, with this id
@@ -41,14 +42,7 @@ UsesOwn (record_of.Sold id price) addr rows = ⊥
 UsesOwn r addr rows = ⊤
 
 closes_own : (o : OpenOrder) (life addr : ℕ) (rows : List TableRow) → UsesOwn (close o life) addr rows
-unfolding close
-closes_own o life addr rows = by_test (nat_le (life_between o.life life) o.count)
-  where
-    by_test : (fits : Bool) → UsesOwn (cond fits
-        (record_of.Closed o.id (life_between o.life life) (o.count - life_between o.life life))
-        (record_of.Odd o.id o.life life)) addr rows
-    by_test true = tt
-    by_test false = tt
+closes_own o life addr rows = closes_so (λ r. UsesOwn r addr rows) o life (λ fits. tt) (λ over. tt)
 
 judged_own : (c : Command) (rows : List TableRow) (since : List Line) (state : EpochState) →
     JudgedHolds (λ r. UsesOwn r (address_of c) rows) (judged_in c since state)

@@ -1,5 +1,5 @@
 -- What an entry of a legal transcript shows: bytes and masks in range.
-use Rattle.std.proofs.Common.{ℕ, ◌-◌, ◌<◌, ◌==◌, nat_le, Bool, true, false, cond, List, [], ◌∷◌, ◌++◌, Option, Some, None, arith, All, rules}
+use Rattle.std.proofs.Common.{ℕ, ◌<◌, ◌==◌, nat_le, Bool, true, false, cond, List, [], ◌∷◌, ◌++◌, Option, Some, None, arith, All, rules}
 use Rattle.std.specs.Prelude.{⊤, unwrap_or, option_and_then, flat_map}
 use Rattle.std.proofs.lemmas.List.Elements.{All-head, All-tail}
 use Rattle.cct_model.specs.terms.coin.Coin.{Coin}
@@ -34,7 +34,7 @@ use Rattle.cct_model.specs.Hopper.{taken_of}
 use Rattle.cct_model.specs.Line.{Line, accepted, inhibited, fell, exchange, scanned, put, taken, ended, restarted}
 use Rattle.cct_model.specs.Line as line
 use Rattle.cct_model.specs.Reading.{judge}
-use Rattle.cct_model.specs.Order.{close, life_between}
+use Rattle.cct_model.specs.Order.{close}
 use Rattle.cct_model.specs.Job.{Job, free, works, job, begun, with_line, credits_read, mask_reply, mask_line, mask_read, accepts_before, accepts_read, judged_by, judged_in, Row, noted_in, credits_request, ident_requests, address_of}
 use Rattle.cct_model.specs.Rows.{row, end_of, rows_of, done}
 use Rattle.cct_model.specs.Transcript.{pending, heard_by_devices, heard_by_host, met, answers, heard_after, got_by, dispensed_by, doses, doses_of, stacked_line, owner, lines_of}
@@ -45,6 +45,7 @@ use Rattle.cct_text.specs.Written.{IsMask, IsCommand, IsRecord, IsFault, IsEnd, 
 use Rattle.cct_model_wire.proofs.OfBytes.{Bytes, IfThere, bytes_are, are_bytes, bytes_more}
 use Rattle.cct_model.proofs.Requests.{Each}
 use Rattle.cct_model.proofs.Rows.{Puts, RowHolds, JudgedHolds, EachRow, both_hold, exchange_end, put_end, Asks, each_ask, AnswerEnds, BareEnds, PutEnds, each_due, each_asked, each_told}
+use Rattle.cct_laws.proofs.orders.Closes.{closes_so}
 use Rattle.cct_laws.proofs.text.Bytes.{spelled_bytes, FitsReply, got_fits}
 use Rattle.cct_laws.proofs.text.Answering.{FitsMet, FitsAll, there_or, answer_bytes, asks_fit}
 
@@ -327,14 +328,7 @@ credits_fit (Hopper life value) = tt
 credits_fit (Bill accepts values ids) = tt
 
 close_fits : (o : OpenOrder) (life : ℕ) → IsRecord (close o life)
-unfolding close
-close_fits o life = by_test (nat_le (life_between o.life life) o.count)
-  where
-    by_test : (fits : Bool) → IsRecord (cond fits
-        (record_of.Closed o.id (life_between o.life life) (o.count - life_between o.life life))
-        (record_of.Odd o.id o.life life))
-    by_test true = tt
-    by_test false = tt
+close_fits o life = closes_so IsRecord o life (λ fits. tt) (λ over. tt)
 
 command_asks : (d : DeviceSetup) (c : Command) (since : List Line) → FitsJob (works c since) →
     EachRow (Asks FitsAsk) (rows_of d c)
