@@ -1,5 +1,5 @@
 -- What an exchange of a trial shows.
-use Rattle.std.proofs.Common.{◌≡◌, ◌∙◌, inl, inr, ap, subst, sym, ℕ, List, Option, Result}
+use Rattle.std.proofs.Common.{◌≡◌, ◌∙◌, ◌⊎◌, inl, inr, refl, ap, subst, sym, ℕ, List, Option, Result}
 use Rattle.cct_edge.specs.declared.fault.Failed.{Failed}
 use Rattle.cct_model_wire.specs.declared.device.DeviceSetup.{DeviceSetup}
 use Rattle.cct_model_wire.specs.declared.device.Setup.{Setup}
@@ -57,31 +57,21 @@ module _ {L K : Type 0} (reads : L → Option (List ℕ) → L → Type 0) (writ
         rests = rests;
       }
 
-  pub refused : (device : DeviceSetup) (round : ℕ) (tried : Premise) (said : Say) (wanted : Want) (kept : Memory)
+  -- one that shows nothing, or that the device refuses it
+  pub unanswered : (device : DeviceSetup) (round : ℕ) (tried : Premise) (said : Say) (wanted : Want) (kept : Memory)
       (before mid after : Bench L K) (told_sent told_heard : List ℕ) (came : Shown)
       → told_sent ≡ mid.sent.items → told_heard ≡ mid.heard.items → Sent reads writes puts setup device round said before mid
-      → came ≡ judged device round tried kept wanted told_heard (after_echo told_sent told_heard) → came ≡ shown.Refused
-      → Plays reads writes puts setup trials mid after
+      → came ≡ judged device round tried kept wanted told_heard (after_echo told_sent told_heard)
+      → (came ≡ shown.Untold) ⊎ (came ≡ shown.Refused) → Plays reads writes puts setup trials mid after
       → Unanswered reads writes puts setup trials device round tried said wanted kept before after
-  refused device round tried said wanted kept before mid after told_sent told_heard came s h sent shows is plays = record {
-    mid = mid;
-    sent = sent;
-    shows = inr (shows_again device round tried wanted kept mid told_sent told_heard came shown.Refused s h shows is);
-    plays = plays;
-  }
-
-  untold : (device : DeviceSetup) (round : ℕ) (tried : Premise) (said : Say) (wanted : Want) (kept : Memory)
-      (before mid after : Bench L K) (told_sent told_heard : List ℕ) (came : Shown)
-      → told_sent ≡ mid.sent.items → told_heard ≡ mid.heard.items → Sent reads writes puts setup device round said before mid
-      → came ≡ judged device round tried kept wanted told_heard (after_echo told_sent told_heard) → came ≡ shown.Untold
-      → Plays reads writes puts setup trials mid after
-      → Unanswered reads writes puts setup trials device round tried said wanted kept before after
-  untold device round tried said wanted kept before mid after told_sent told_heard came s h sent shows is plays = record {
-    mid = mid;
-    sent = sent;
-    shows = inl (shows_again device round tried wanted kept mid told_sent told_heard came shown.Untold s h shows is);
-    plays = plays;
-  }
+  unanswered device round tried said wanted kept before mid after told_sent told_heard came s h sent shows which plays =
+      record {
+        mid = mid;
+        sent = sent;
+        shows = subst (λ x. (x ≡ shown.Untold) ⊎ (x ≡ shown.Refused))
+            (sym (shows_again device round tried wanted kept mid told_sent told_heard came came s h shows refl)) which;
+        plays = plays;
+      }
 
   or_late : (device : DeviceSetup) (round : ℕ) (tried : Premise) (said : Say) (wanted : Want) (kept later : Memory)
       (before after : Bench L K) (listened : Done)
@@ -101,4 +91,5 @@ module _ {L K : Type 0} (reads : L → Option (List ℕ) → L → Type 0) (writ
       → StepCame reads writes puts setup trials device round tried (step.Asks said wanted) kept later before after listened
   untold_came device round tried said wanted kept later before mid after told_sent told_heard came listened s h sent shows is plays late =
       or_late device round tried said wanted kept later before after listened
-      (untold device round tried said wanted kept before mid after told_sent told_heard came s h sent shows is plays) late
+      (unanswered device round tried said wanted kept before mid after told_sent told_heard came s h sent shows (inl is) plays)
+      late

@@ -1,6 +1,6 @@
-use Rattle.std.proofs.Common.{[]}
+use Rattle.std.proofs.Common.{[], inr}
 use Rattle.std.proofs.lemmas.Result.{IfOk-weaker}
-use Rattle.cct_probe_run.proofs.Asking.{asked, refused, untold_came}
+use Rattle.cct_probe_run.proofs.Asking.{asked, unanswered, untold_came}
 use Rattle.cct_probe_plan.specs.declared.plan.Step.TheVariants as step
 use Rattle.cct_probe_run.specs.declared.acting.Done.TheVariants as done
 use Rattle.cct_probe_run.specs.declared.findings.Why.TheVariants as why
@@ -35,7 +35,7 @@ returns-in_ok-tell_wire-in-Untold-clause-came g c = λ say first sent. IfOk-weak
 
 pub returns-in_ok-tell_wire-in-Refused-clause-came : goal.returns-in_ok-tell_wire-in-Refused-clause-came
 returns-in_ok-tell_wire-in-Refused-clause-came g c = λ say first sent.
-    refused g.L.Line.reads g.L.Line.writes g.K.Sink.puts c.args.plan.setup.now c.args.plan.trials.now
+    unanswered g.L.Line.reads g.L.Line.writes g.K.Sink.puts c.args.plan.setup.now c.args.plan.trials.now
     c.args.turn.device.now c.args.turn.round c.args.turn.premise say c.args.want c.args.memory.now first c.args.bench.now c.tell_wire-in-Refused.new.self
-    c.sent.result.now c.heard.result.now c.judge.result c.sent.ensures c.heard.ensures sent c.judge.ensures.shown c.in-Refused.is
+    c.sent.result.now c.heard.result.now c.judge.result c.sent.ensures c.heard.ensures sent c.judge.ensures.shown (inr c.in-Refused.is)
     (c.tell_wire-in-Refused.ensures.plays c.args.plan.setup.now c.args.plan.trials.now c.args.bench.now not_begun)
