@@ -26,7 +26,8 @@ use Rattle.cct_model.specs.Reading.{coins_among}
 use Rattle.cct_model.specs.Script.{IsInRange}
 use Rattle.cct_model.specs.Setting.{Setting, mask_in}
 use Rattle.cct_model.specs.Setup.{IsSoundSetup}
-use Rattle.cct_model.specs.Transcript.{at, doses, doses_of, got_by, heard_after, heard_by_devices, lines_of, met, own, pending}
+use Rattle.cct_model.specs.Transcript.{at, doses_of, got_by, heard_after, heard_by_devices, lines_of, met, own, pending}
+use Rattle.cct_model.proofs.Doses.{no_doses}
 use Rattle.cct_laws.specs.Law.{IsOf}
 use Rattle.cct_laws.proofs.jobs.ReadingsMadeAgain.{no_bill}
 use Rattle.cct_laws.proofs.jobs.StepBrings.{Comes, takes_coin, leaves_coin, takes_bill, leaves_bill, leaves_alien, drops_coin, drops_none, jams, jams_none, is_reset}
@@ -128,12 +129,6 @@ events_kept None before keeps = refl
 events_kept (Some ResetDevice) before keeps = absurd keeps
 events_kept (Some q) before keeps = refl
 
-undosed : (body : DeviceBody) (serial : ℕ) (ms : List Met) (asked : Option Request) → IsAcceptor body →
-    doses body serial ms asked ≡ []
-undosed (Acceptor accepts values ids) serial ms asked accepting = refl
-undosed (Hopper life value) serial ms asked accepting = absurd accepting
-undosed (Bill accepts values ids) serial ms asked accepting = absurd accepting
-
 hears : (ms : List Met) (lines : List Line) (asked : Option Request) → Keeps asked →
     world_by (heard asked ∷ ms) lines ≡ world_by ms lines
 hears ms lines asked keeps =
@@ -150,7 +145,7 @@ pub wire_lines : (d : DeviceSetup) (past : List Entry) (addr : ℕ) (sent piece 
 wire_lines d past addr sent piece ms accepting =
     let x = line.exchange (asked d.kind sent) (got_by d sent piece) in
     ap (world_by ms) (no_lines (cond (addr == d.addr) (x ∷ []) []) (doses_of d past sent) (lines_of d past)
-    (undosed d.body d.serial (met d past) (asks_of d (heard_by_devices (pending past) sent)) accepting))
+    (no_doses d.body d.serial (met d past) (asks_of d (heard_by_devices (pending past) sent)) accepting))
     ∙ same_with ms (lines_of d past) x (addr == d.addr) refl refl
 
 quiet_wire : (d : DeviceSetup) (past : List Entry) (addr : ℕ) (sent piece : List ℕ) → IsAcceptor d.body →

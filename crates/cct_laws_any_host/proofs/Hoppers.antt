@@ -2,25 +2,22 @@
 use Rattle.std.proofs.Common.{◌≡◌, ℕ, suc, ◌+◌, ◌≤◌, ◌==◌, cond, true, false, Bool, List, [], ◌∷◌, ◌++◌, length, map, refl, ap, sym, ◌∙◌, subst, arith, Option, Some, None}
 use Rattle.std.specs.Prelude.{◌%◌, ◌^◌}
 use Rattle.std.proofs.lemmas.List.{length-map}
-use Rattle.cct_model.specs.terms.device.DeviceBody.{DeviceBody}
-use Rattle.cct_model.specs.terms.device.DeviceBody.TheVariants.{Acceptor, Bill, Hopper}
 use Rattle.cct_model.specs.terms.device.DeviceSetup.{DeviceSetup}
 use Rattle.cct_model.specs.terms.device.Setup.{Setup}
-use Rattle.cct_model.specs.terms.request.Request.{Request}
 use Rattle.cct_model.specs.lines.command.Step.{Step}
 use Rattle.cct_model.specs.lines.entry.Entry.{Entry}
 use Rattle.cct_model.specs.lines.entry.Entry.TheVariants as entry
-use Rattle.cct_model.specs.Bill.{bill_held, stacked_by}
 use Rattle.cct_model.specs.Device.{IsHopper}
 use Rattle.cct_model.specs.Exchange.{asked, asks_of}
 use Rattle.cct_model.specs.History.{Met}
 use Rattle.cct_model.specs.Honest.{HonestPast}
-use Rattle.cct_model.specs.Hopper.{dropped, taken_of}
+use Rattle.cct_model.specs.Hopper.{dropped}
 use Rattle.cct_model.specs.Job.{address_of}
 use Rattle.cct_model.specs.Line.{Line}
 use Rattle.cct_model.specs.Line as line
 use Rattle.cct_model.specs.Setup.{IsSoundSetup}
-use Rattle.cct_model.specs.Transcript.{dispensed_by, doses, doses_of, got_by, heard_after, heard_by_devices, lines_of, met, own, pending, stacked_line}
+use Rattle.cct_model.specs.Transcript.{doses_of, got_by, heard_after, heard_by_devices, lines_of, met, own, pending}
+use Rattle.cct_model.proofs.Doses.{undosed}
 use Rattle.cct_laws.specs.Coins.{all_fallen}
 use Rattle.cct_laws.specs.Law.{IsOf}
 use Rattle.cct_laws.proofs.wire.Replies.{start_of}
@@ -37,20 +34,6 @@ abbrev fallen : DeviceSetup → List Entry → ℕ
 fallen d past = all_fallen (lines_of d past)
 
 -- lines that show no fall
-dosed : (asked : Option ℕ) (lines : List Line) → all_fallen (dispensed_by asked ++ lines) ≡ all_fallen lines
-dosed None lines = refl
-dosed (Some count) lines = refl
-
-stacked : (place : Option ℕ) (lines : List Line) → all_fallen (stacked_line place ++ lines) ≡ all_fallen lines
-stacked None lines = refl
-stacked (Some place) lines = refl
-
-no_fall_dosed : (body : DeviceBody) (serial : ℕ) (ms : List Met) (asks : Option Request) (lines : List Line) →
-    all_fallen (doses body serial ms asks ++ lines) ≡ all_fallen lines
-no_fall_dosed (Acceptor accepts values ids) serial ms asks lines = refl
-no_fall_dosed (Hopper life value) serial ms asks lines = dosed (taken_of serial ms asks) lines
-no_fall_dosed (Bill accepts values ids) serial ms asks lines = stacked (stacked_by asks (bill_held ms)) lines
-
 no_fall_with : (x : Line) (b : Bool) (before after : List Line) → all_fallen (x ∷ before ++ after) ≡ all_fallen (before ++ after) →
     all_fallen ((cond b (x ∷ []) [] ++ before) ++ after) ≡ all_fallen (before ++ after)
 no_fall_with x true before after none = none
@@ -66,7 +49,8 @@ wire_fallen : (d : DeviceSetup) (past : List Entry) (addr : ℕ) (sent piece : L
 wire_fallen d past addr sent piece =
     no_fall_with (line.exchange (asked d.kind sent) (got_by d sent piece)) (addr == d.addr) (doses_of d past sent)
     (lines_of d past) refl
-    ∙ no_fall_dosed d.body d.serial (met d past) (asks_of d (heard_by_devices (pending past) sent)) (lines_of d past)
+    ∙ undosed all_fallen (record { dosed = λ count lines. refl; stacked = λ coin lines. refl })
+    d.body d.serial (met d past) (asks_of d (heard_by_devices (pending past) sent)) (lines_of d past)
 
 -- a coin falls where the hopper has some to pay
 Fits : DeviceSetup → List Met → List Line → Type 0

@@ -1,10 +1,9 @@
 -- The lines of an address after a past, and after what it shows: they are the same but for the dispenses that a hopper took
 -- and the bills that a bill acceptor stacked, which what was sent and what was posted don't go by.
-use Rattle.std.proofs.Common.{◌≡◌, inl, inr, ℕ, ◌≤◌, max, ◌==◌, Bool, true, false, cond, List, [], ◌∷◌, ◌++◌, refl, sym, ap, ◌∙◌, subst, Option, Some, None}
+use Rattle.std.proofs.Common.{◌≡◌, inl, inr, ℕ, ◌≤◌, max, ◌==◌, Bool, true, false, cond, List, [], ◌∷◌, ◌++◌, refl, sym, ap, ◌∙◌, subst, Option}
 use Rattle.std.specs.Prelude.{⊤}
 use Rattle.cct_model.specs.terms.coin.Coin.{Coin}
 use Rattle.cct_model.specs.terms.device.DeviceBody.{DeviceBody}
-use Rattle.cct_model.specs.terms.device.DeviceBody.TheVariants.{Acceptor, Bill, Hopper}
 use Rattle.cct_model.specs.terms.device.DeviceSetup.{DeviceSetup}
 use Rattle.cct_model.specs.terms.request.Request.{Request}
 use Rattle.cct_model.specs.lines.record.Record.{Record}
@@ -13,14 +12,14 @@ use Rattle.cct_model.specs.lines.command.Command.TheVariants as command
 use Rattle.cct_model.specs.lines.entry.Entry.{Entry}
 use Rattle.cct_model.specs.lines.entry.Entry.TheVariants as entry
 use Rattle.cct_model.specs.Exchange.{asked, asks_of}
-use Rattle.cct_model.specs.History.{Met}
 use Rattle.cct_model.specs.Job.{epoch, epoch_by}
 use Rattle.cct_model.specs.Line.{Line, accepted, dispensed, exchange, put, restarted, taken}
 use Rattle.cct_model.specs.Order.{order}
 use Rattle.cct_model.specs.Paid.{anew_by}
 use Rattle.cct_model.specs.Records.{owner_in, records}
 use Rattle.cct_model.specs.Reply.{Reply}
-use Rattle.cct_model.specs.Transcript.{dispensed_by, doses, doses_of, got_by, heard_by_devices, lines_of, met, onto, own, pending, stacked_line}
+use Rattle.cct_model.specs.Transcript.{doses_of, got_by, heard_by_devices, lines_of, met, onto, own, pending}
+use Rattle.cct_model.proofs.Doses as model
 use Rattle.cct_laws.specs.Law.{EachEntry, IsOf, lines_in}
 use Rattle.cct_laws_live.specs.Live.{EachLive, shown}
 use Rattle.cct_laws_live.specs.Posts.{Has, HasOver, HaveInTurn, accepts_heard, credits_heard, mask_heard, PostAt, PostOf, PostedBy, since_taken}
@@ -45,20 +44,6 @@ undosed_on (dispensed count ∷ front) lines = undosed_on front lines
 undosed_on (accepted coin ∷ front) lines = undosed_on front lines
 undosed_on (l ∷ front) lines = ap (λ ls. l ∷ ls) (undosed_on front lines)
 
-taken_dose : (count : Option ℕ) (lines : List Line) → undosed (dispensed_by count ++ lines) ≡ undosed lines
-taken_dose None lines = refl
-taken_dose (Some count) lines = refl
-
-stacked_bill : (place : Option ℕ) (lines : List Line) → undosed (stacked_line place ++ lines) ≡ undosed lines
-stacked_bill None lines = refl
-stacked_bill (Some place) lines = refl
-
-no_doses : (body : DeviceBody) (serial : ℕ) (past : List Met) (q : Option Request) (lines : List Line) →
-    undosed (doses body serial past q ++ lines) ≡ undosed lines
-no_doses (Acceptor accepts values ids) serial past q lines = refl
-no_doses (Hopper life value) serial past q lines = taken_dose _ lines
-no_doses (Bill accepts values ids) serial past q lines = stacked_bill _ lines
-
 -- the same but for these
 abbrev pub SameUndosed : List Line → List Line → Type 0
 SameUndosed lines others = undosed lines ≡ undosed others
@@ -70,7 +55,8 @@ front_same front lines others same =
 dosed_same : (d : DeviceSetup) (past : List Entry) (sent : List ℕ) →
     SameUndosed (doses_of d past sent ++ lines_of d past) (lines_of d past)
 dosed_same d past sent =
-    no_doses d.body d.serial (met d past) (asks_of d (heard_by_devices (pending past) sent)) (lines_of d past)
+    model.undosed undosed (record { dosed = λ count lines. refl; stacked = λ coin lines. refl })
+    d.body d.serial (met d past) (asks_of d (heard_by_devices (pending past) sent)) (lines_of d past)
 
 wire_same : (here : Bool) (q : Option Request) (y : Option Reply) (first second lines others : List Line) →
     SameUndosed (first ++ lines) (second ++ others) →

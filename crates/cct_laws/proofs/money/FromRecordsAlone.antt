@@ -1,7 +1,6 @@
 -- What records alone show.
 use Rattle.std.proofs.Common.{◌≡◌, ℕ, ◌+◌, ◌-◌, ◌==◌, Bool, true, false, cond, List, [], ◌∷◌, ◌++◌, refl, ap, ◌∙◌, Option, Some, None, arith}
 use Rattle.cct_model.specs.terms.device.DeviceBody.{DeviceBody}
-use Rattle.cct_model.specs.terms.device.DeviceBody.TheVariants.{Acceptor, Bill, Hopper}
 use Rattle.cct_model.specs.terms.device.DeviceSetup.{DeviceSetup}
 use Rattle.cct_model.specs.terms.device.Setup.{Setup}
 use Rattle.cct_model.specs.terms.request.Request.{Request}
@@ -22,7 +21,8 @@ use Rattle.cct_model.specs.Rows.{closes_order}
 use Rattle.cct_model.specs.Records.{records, records_at, epoch_of, epoch_in, order_of, order_in, greatest_id}
 use Rattle.cct_model.specs.Money.{sum_over, posted_in, paid_in, sold_in, reserved_in, reserved_by, reserved_by_sale, reserved_at_work, reserved, totals}
 use Rattle.cct_model.specs.Refusal.{job_holds, order_holds, holds_at, sale_holds, held, running_id, sale_id, greatest_running, last_id}
-use Rattle.cct_model.specs.Transcript.{owner, lines_of, dispensed_by, doses, doses_of, stacked_line, got_by, sold_line, sale_lines}
+use Rattle.cct_model.specs.Transcript.{owner, lines_of, doses, doses_of, got_by, sold_line, sale_lines}
+use Rattle.cct_model.proofs.Doses.{undosed}
 use Rattle.cct_laws.specs.Recorded.{put_in, IsRestart, HasNoJob, many_open, open_orders, totals_in}
 use Rattle.cct_laws.proofs.money.Sums.{sum_none, sum_same}
 
@@ -33,19 +33,9 @@ no_put : (here : Bool) (l : Line) (lines : List Line) → put_in (l ∷ lines) �
 no_put true l lines none = none
 no_put false l lines none = refl
 
-no_put_dispensed : (count : Option ℕ) (lines : List Line) → put_in (dispensed_by count ++ lines) ≡ put_in lines
-no_put_dispensed None lines = refl
-no_put_dispensed (Some count) lines = refl
-
-no_put_stacked : (place : Option ℕ) (lines : List Line) → put_in (stacked_line place ++ lines) ≡ put_in lines
-no_put_stacked None lines = refl
-no_put_stacked (Some place) lines = refl
-
 pub no_put_doses : (body : DeviceBody) (serial : ℕ) (past : List Met) (asked : Option Request) (lines : List Line) →
     put_in (doses body serial past asked ++ lines) ≡ put_in lines
-no_put_doses (Acceptor accepts values ids) serial past asked lines = refl
-no_put_doses (Hopper life value) serial past asked lines = no_put_dispensed _ lines
-no_put_doses (Bill accepts values ids) serial past asked lines = no_put_stacked _ lines
+no_put_doses = undosed put_in (record { dosed = λ count lines. refl; stacked = λ coin lines. refl })
 
 pub put_here : (here : Bool) (r : Record) (lines : List Line) (before : List Record) → put_in lines ≡ before →
     put_in (cond here (put r ∷ []) [] ++ lines) ≡ cond here (r ∷ before) before
