@@ -1,12 +1,11 @@
 -- What is reported of sessions of change is right by the coins that fell.
-use Rattle.std.proofs.Common.{◌≡◌, ◌≤◌, ◌-◌, ◌*◌, ◌+◌, ◌==◌, ℕ, Bool, true, false, cond, List, [], ◌∷◌, ◌++◌, Option, Some, None, Result, All, inl, inr, refl, sym, ap, ◌∙◌, subst, append_assoc, arith}
+use Rattle.std.proofs.Common.{◌≡◌, ◌-◌, ◌+◌, ◌==◌, ℕ, Bool, true, false, cond, List, [], ◌∷◌, ◌++◌, Option, Some, None, Result, All, inl, inr, refl, sym, ap, ◌∙◌, subst, append_assoc, arith}
 use Rattle.std.specs.Prelude.{MatchBool, ⊤}
 use Rattle.std.specs.Option.{option_map}
 use Rattle.std.proofs.lemmas.Bool.{eqb-true}
 use Rattle.std.proofs.lemmas.List.{append-nil}
-use Rattle.std.proofs.lemmas.List.Elements.{All-cons, All-head, All-nil}
+use Rattle.std.proofs.lemmas.List.Elements.{All-cons, All-head}
 use Rattle.cct_model.specs.terms.device.Setup.{Setup}
-use Rattle.cct_model.specs.lines.command.Command.TheVariants as command
 use Rattle.cct_model.specs.lines.command.CommandNo.{CommandNo}
 use Rattle.cct_model.specs.lines.command.Step.{Step}
 use Rattle.cct_model.specs.lines.command.Step.TheVariants as step
@@ -35,8 +34,8 @@ use Rattle.cct_live_service.specs.declared.served.Served.{Served}
 use Rattle.cct_live_service.specs.declared.served.Served.TheVariants as served_as
 use Rattle.cct_live_service.specs.declared.stopping.AtEnd.{AtEnd}
 use Rattle.cct_live_service.specs.declared.watch.Watch.{Watch}
+use Rattle.cct_live_service.specs.Hears.{Refusal}
 use Rattle.cct_live_service.specs.Lived.{Lived}
-use Rattle.cct_host_change.specs.Serving.{Asks}
 use Rattle.cct_laws_change.specs.Change.{IsPaid, IsToldRight, IsWithin}
 use Rattle.cct_laws_change.specs.Orders.{begun_anew, opened_of, orders_after}
 use Rattle.cct_laws_change.proofs.News.{sure_before}
@@ -603,14 +602,14 @@ module _ {L : Type 0} (reads : L → Option (List ℕ) → L → Type 0) (writes
     {K : Type 0} (written : K → Option (List ℕ)) (puts : K → List ℕ → Result (Unit {0}) Failed → K → Type 0)
     {D : Type 0} (size : D → ℕ) (honest : D → Bool) (seen : D → Option (List ℕ)) (may_leave : D → List ℕ → Type 0)
     (moment : D → ℕ) (left_since : D → ℕ → List ℕ → Type 0) (cuts : D → ℕ) where
-  pub service_sessions : (setup : Setup) → IsSoundSetup setup → (first last : Port L) (watch watch_then : Watch) (roll now : Rolled) (left_desk : Desk) (missed missed_then : ℕ)
+  pub service_sessions : (setup : Setup) → IsSoundSetup setup → (first last : Port L) (watch watch_then : Watch) (roll now : Rolled) (left_desk : Desk) (missed missed_then : ℕ) (Heard : List Refusal → Type 0)
       (ends : AtEnd) (left : Option (List ℕ)) (how : Served) (old new : K) (given back : D) →
       (service : Lived written puts (Gives reads writes) was_sent faults_of size honest seen may_leave moment left_since cuts
-      given back setup roll now (clear_desk setup) left_desk missed missed_then ends left how old new
+      given back setup roll now (clear_desk setup) left_desk missed missed_then Heard ends left how old new
       (record { link = first; watch = watch }) (record { link = last; watch = watch_then })) →
       (fallen whole : List Entry) (right : IsRightOver setup fallen (news_of service.told ++ whole)) →
       TellsRight setup right.world (clear_desk setup) [] service.told
-  service_sessions setup sound first last watch watch_then roll now left_desk missed missed_then ends left how old new given back service fallen whole right =
+  service_sessions setup sound first last watch watch_then roll now left_desk missed missed_then Heard ends left how old new given back service fallen whole right =
       let at = followed how (clear_desk setup) left_desk service.told service.at_desk in
       sessions_right setup right.world (right_sure setup fallen (news_of service.told ++ whole) right) sound service.told at.0 whole
       right.over.tells at.1

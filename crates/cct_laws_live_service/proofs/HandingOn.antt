@@ -1,5 +1,5 @@
 -- What a power cut leaves of a service is where the next life starts.
-use Rattle.std.proofs.Common.{◌≡◌, ◌⊎◌, inl, inr, ℕ, Bool, List, [], ◌∷◌, ◌++◌, refl, sym, ◌∙◌, subst, Option, Some, None, Result, reverse, true, arith}
+use Rattle.std.proofs.Common.{◌≡◌, inl, inr, ℕ, Bool, List, [], ◌∷◌, ◌++◌, refl, sym, ◌∙◌, subst, Option, Some, None, Result, reverse, true, arith}
 use Rattle.std.proofs.lemmas.Grind.{reverse_onto}
 use Rattle.cct_edge.specs.declared.fault.Failed.{Failed}
 use Rattle.cct_disk.specs.Disk.{Holds, IsTrusted}
@@ -31,6 +31,7 @@ use Rattle.cct_live_service.specs.declared.served.Served.TheVariants as served
 use Rattle.cct_live_service.specs.declared.stopping.AtEnd.{AtEnd}
 use Rattle.cct_live_service.specs.declared.watch.Watch.{Watch}
 use Rattle.cct_live_service.specs.Found.{FoundOn, Tells}
+use Rattle.cct_live_service.specs.Hears.{Refusal}
 use Rattle.cct_live_service.specs.Lived.{LeftBy, Lived}
 use Rattle.cct_live_service.specs.Told.{news_of}
 use Rattle.cct_laws_live_service.specs.Killed.{IsLeftAt}
@@ -86,9 +87,9 @@ module _ {L : Type 0} (reads : L → Option (List ℕ) → L → Type 0) (writes
     (moment : D → ℕ) (left_since : D → ℕ → List ℕ → Type 0) (cuts : D → ℕ) where
   pub hands_on : (echoes : Bool) (longest : ℕ) (coming : L → List ℕ) (silent : L → ℕ) (setup : Setup) (history : L → List Moment) →
       IsSoundSetup setup → IsHonestLine reads writes echoes longest coming silent setup history → (first last : Port L) (watch watch_then : Watch)
-      (roll now : Rolled) (desk left_desk : Desk) (missed missed_then : ℕ) (ends : AtEnd) (left : Option (List ℕ)) (how : Served) (old new : K) (given back : D) →
+      (roll now : Rolled) (desk left_desk : Desk) (missed missed_then : ℕ) (Heard : List Refusal → Type 0) (ends : AtEnd) (left : Option (List ℕ)) (how : Served) (old new : K) (given back : D) →
       (service : Lived written puts (Gives reads writes) was_sent faults_of size honest seen may_leave moment left_since cuts
-      given back setup roll now desk left_desk missed missed_then ends left how old new
+      given back setup roll now desk left_desk missed missed_then Heard ends left how old new
       (record { link = first; watch = watch }) (record { link = last; watch = watch_then })) →
       (found : List Record) (whole : List Entry) → FoundOn honest seen may_leave given setup service.begun found →
       HaveLived reads writes echoes longest coming silent MOST_RECORDS setup history (history (line_of first)) found whole →
@@ -97,7 +98,7 @@ module _ {L : Type 0} (reads : L → Option (List ℕ) → L → Type 0) (writes
       StartsOver setup
       (λ rs all. HaveLived reads writes echoes longest coming silent MOST_RECORDS setup history (history (line_of last)) rs all)
       (news_of service.told ++ whole) image
-  hands_on echoes longest coming silent setup history sound line first last watch watch_then roll now desk left_desk missed missed_then ends left how old new given back service found
+  hands_on echoes longest coming silent setup history sound line first last watch watch_then roll now desk left_desk missed missed_then Heard ends left how old new given back service found
       whole there lives port trusted image may =
       let told = news_of service.told in
       let past = told ++ started found in
@@ -111,7 +112,7 @@ module _ {L : Type 0} (reads : L → Option (List ℕ) → L → Type 0) (writes
       (life_follow MOST_RECORDS setup found service.steps past sound life.0)
       (life_due_follow MOST_RECORDS setup found service.steps past sound life.0)
       (service_right reads writes written puts size honest seen may_leave moment left_since cuts echoes longest coming silent setup history sound line first last watch watch_then
-      roll now desk left_desk missed missed_then ends left how old new given back service found whole there lives port).2
+      roll now desk left_desk missed missed_then Heard ends left how old new given back service found whole there lives port).2
       (cut_left honest seen may_leave back setup how past image life.2 trusted may)
 
 -- a disk that holds such an image shows its records

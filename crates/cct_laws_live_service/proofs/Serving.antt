@@ -24,6 +24,7 @@ use Rattle.cct_live_service.specs.declared.served.Served.{Served}
 use Rattle.cct_live_service.specs.declared.stopping.AtEnd.{AtEnd}
 use Rattle.cct_live_service.specs.declared.watch.Watch.{Watch}
 use Rattle.cct_live_service.specs.Found.{FoundOn}
+use Rattle.cct_live_service.specs.Hears.{Refusal}
 use Rattle.cct_live_service.specs.Lived.{Lived}
 use Rattle.cct_live_service.specs.Told.{news_of}
 use Rattle.cct_laws_live_service.proofs.Linked.{uses_chain}
@@ -33,14 +34,14 @@ module _ {L : Type 0} (reads : L → Option (List ℕ) → L → Type 0) (writes
     {D : Type 0} (size : D → ℕ) (honest : D → Bool) (seen : D → Option (List ℕ)) (may_leave : D → List ℕ → Type 0)
     (moment : D → ℕ) (left_since : D → ℕ → List ℕ → Type 0) (cuts : D → ℕ) where
   -- what went over its link is a chain of the entries that it reported
-  pub service_chain : (setup : Setup) → IsSoundSetup setup → (first last : Port L) (watch watch_then : Watch) (roll now : Rolled) (desk left_desk : Desk) (missed missed_then : ℕ) (ends : AtEnd)
+  pub service_chain : (setup : Setup) → IsSoundSetup setup → (first last : Port L) (watch watch_then : Watch) (roll now : Rolled) (desk left_desk : Desk) (missed missed_then : ℕ) (Heard : List Refusal → Type 0) (ends : AtEnd)
       (left : Option (List ℕ)) (how : Served) (old new : K) (given back : D) →
       (service : Lived written puts (Gives reads writes) was_sent faults_of size honest seen may_leave moment left_since cuts
-      given back setup roll now desk left_desk missed missed_then ends left how old new
+      given back setup roll now desk left_desk missed missed_then Heard ends left how old new
       (record { link = first; watch = watch }) (record { link = last; watch = watch_then })) →
       (found : List Record) → FoundOn honest seen may_leave given setup service.begun found →
       Chain (Gives reads writes) first (news_of service.told) last
-  service_chain setup sound first last watch watch_then roll now desk left_desk missed missed_then ends left how old new given back service found there =
+  service_chain setup sound first last watch watch_then roll now desk left_desk missed missed_then Heard ends left how old new given back service found there =
       let told = news_of service.told in
       let asked =
       asked_first told (started found)
@@ -51,9 +52,9 @@ module _ {L : Type 0} (reads : L → Option (List ℕ) → L → Type 0) (writes
 
   pub service_right : (echoes : Bool) (longest : ℕ) (coming : L → List ℕ) (silent : L → ℕ) (setup : Setup) (history : L → List Moment) →
       IsSoundSetup setup → IsHonestLine reads writes echoes longest coming silent setup history → (first last : Port L) (watch watch_then : Watch)
-      (roll now : Rolled) (desk left_desk : Desk) (missed missed_then : ℕ) (ends : AtEnd) (left : Option (List ℕ)) (how : Served) (old new : K) (given back : D) →
+      (roll now : Rolled) (desk left_desk : Desk) (missed missed_then : ℕ) (Heard : List Refusal → Type 0) (ends : AtEnd) (left : Option (List ℕ)) (how : Served) (old new : K) (given back : D) →
       (service : Lived written puts (Gives reads writes) was_sent faults_of size honest seen may_leave moment left_since cuts
-      given back setup roll now desk left_desk missed missed_then ends left how old new
+      given back setup roll now desk left_desk missed missed_then Heard ends left how old new
       (record { link = first; watch = watch }) (record { link = last; watch = watch_then })) →
       (found : List Record) (whole : List Entry) → FoundOn honest seen may_leave given setup service.begun found →
       HaveLived reads writes echoes longest coming silent MOST_RECORDS setup history (history (line_of first)) found whole →
@@ -63,11 +64,11 @@ module _ {L : Type 0} (reads : L → Option (List ℕ) → L → Type 0) (writes
       × ((at : Option CrashAt) (news : List Entry) → IsCrash at → EntriesOfRestart setup (news_of service.told ++ whole) at news →
       HaveLived reads writes echoes longest coming silent MOST_RECORDS setup history (history (line_of last))
       (records (news ++ (news_of service.told ++ whole))) (news ++ (news_of service.told ++ whole)))
-  service_right echoes longest coming silent setup history sound line first last watch watch_then roll now desk left_desk missed missed_then ends left how old new given back service found
+  service_right echoes longest coming silent setup history sound line first last watch watch_then roll now desk left_desk missed missed_then Heard ends left how old new given back service found
       whole there lives port =
       let told = news_of service.told in
       let life = (service.lived found there).0 in
-      let chain = service_chain setup sound first last watch watch_then roll now desk left_desk missed missed_then ends left how old new given back service found there in
+      let chain = service_chain setup sound first last watch watch_then roll now desk left_desk missed missed_then Heard ends left how old new given back service found there in
       let right =
       life_right_over reads writes echoes longest coming silent MOST_RECORDS setup history sound line first last found service.steps told
       whole lives port life chain in (

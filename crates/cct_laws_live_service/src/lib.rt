@@ -29,24 +29,26 @@ ghost use Rattle.cct_laws_live_service.specs.Killed.{IsLeftAt, Point};
 ghost use Rattle.cct_laws_live_service.specs.Sessions.{TellsRight};
 ghost use Rattle.cct_laws_live_service.specs.Starts.{StartsOver};
 ghost use Rattle.cct_disk.specs.Disk.{Holds, IsTrusted};
+ghost use Rattle.cct_live_service.specs.Hears.{HearsMore};
 ghost use Rattle.cct_live_service.specs.Lived.{Lived};
 ghost use Rattle.cct_live_service.specs.Told.{news_of};
 
 use cct_disk::Disk;
 use cct_edge::Sink;
 use cct_live_port::Line;
+use cct_live_service::Outside;
 use cct_wire::Link;
 
 /// Where a service lived over a port of an honest line, no coin is posted twice or lost in silence,
 /// and no order is paid twice, in all that it and those before it reported. The next one may start
 /// over what it left, and the same is promised of that. A law: its body is empty.
-pub fn a_service_over_an_honest_line_is_right<L: Line, K: Sink, D: Disk>()
+pub fn a_service_over_an_honest_line_is_right<L: Line, K: Sink, D: Disk, O: Outside>()
     ensures { (echoes : Bool) (longest : ℕ) (coming : L → List ℕ) (silent : L → ℕ) (setup : Setup)
         (history : L → List Moment) → IsSoundSetup setup → IsHonestLine L.reads L.writes echoes longest coming silent setup history
-        → (first last : Port L) (watch watch_then : Watch) (roll now : Rolled) (desk left_desk : Desk) (missed missed_then : ℕ) (ends : AtEnd) (left : Option (List ℕ)) (how : Served) (old new : K)
+        → (first last : Port L) (watch watch_then : Watch) (roll now : Rolled) (desk left_desk : Desk) (missed missed_then : ℕ) (around around_then : O) (ends : AtEnd) (left : Option (List ℕ)) (how : Served) (old new : K)
         (given back : D)
         → (service : Lived K.written K.puts (Gives L.reads L.writes) was_sent faults_of D.size D.honest D.seen D.may_leave
-        D.moment D.left_since D.cuts given back setup roll now desk left_desk missed missed_then ends left how old new
+        D.moment D.left_since D.cuts given back setup roll now desk left_desk missed missed_then (HearsMore O.heard around around_then) ends left how old new
         (record { link = first; watch = watch }) (record { link = last; watch = watch_then }))
         → (found : List Record) (whole : List Entry) → FoundOn D.honest D.seen D.may_leave given setup service.begun found
         → HaveLived L.reads L.writes echoes longest coming silent MOST_RECORDS setup history (history (line_of first)) found whole
@@ -64,11 +66,11 @@ pub fn a_service_over_an_honest_line_is_right<L: Line, K: Sink, D: Disk>()
 /// session are worth its amount where it was served, and what is reported as paid where it falls
 /// short, and they are never worth more than its amount. They are all coins that fell up to the end
 /// of the service. A law: its body is empty.
-pub fn a_session_on_an_honest_line_pays_what_it_tells<L: Line, K: Sink, D: Disk>()
-    ensures { (setup : Setup) → IsSoundSetup setup → (first last : Port L) (watch watch_then : Watch) (roll now : Rolled) (left_desk : Desk) (missed missed_then : ℕ) (ends : AtEnd)
+pub fn a_session_on_an_honest_line_pays_what_it_tells<L: Line, K: Sink, D: Disk, O: Outside>()
+    ensures { (setup : Setup) → IsSoundSetup setup → (first last : Port L) (watch watch_then : Watch) (roll now : Rolled) (left_desk : Desk) (missed missed_then : ℕ) (around around_then : O) (ends : AtEnd)
         (left : Option (List ℕ)) (how : Served) (old new : K) (given back : D)
         → (service : Lived K.written K.puts (Gives L.reads L.writes) was_sent faults_of D.size D.honest D.seen D.may_leave
-        D.moment D.left_since D.cuts given back setup roll now (clear_desk setup) left_desk missed missed_then ends left how old new
+        D.moment D.left_since D.cuts given back setup roll now (clear_desk setup) left_desk missed missed_then (HearsMore O.heard around around_then) ends left how old new
         (record { link = first; watch = watch }) (record { link = last; watch = watch_then }))
         → (fallen whole : List Entry) (right : IsRightOver setup fallen (news_of service.told ++ whole))
         → TellsRight setup right.world (clear_desk setup) [] service.told }
@@ -77,14 +79,14 @@ pub fn a_session_on_an_honest_line_pays_what_it_tells<L: Line, K: Sink, D: Disk>
 /// What a power cut leaves on the disk of such a service, or what is there without one, shows the
 /// records over which the next life starts: those that were put, or these and the one that was due.
 /// A disk that holds it shows them to the next service. A law: its body is empty.
-pub fn the_next_service_starts_over_what_is_left<L: Line, K: Sink, D: Disk>()
+pub fn the_next_service_starts_over_what_is_left<L: Line, K: Sink, D: Disk, O: Outside>()
     ensures { (echoes : Bool) (longest : ℕ) (coming : L → List ℕ) (silent : L → ℕ) (setup : Setup)
         (history : L → List Moment) → IsSoundSetup setup
         → IsHonestLine L.reads L.writes echoes longest coming silent setup history
-        → (first last : Port L) (watch watch_then : Watch) (roll now : Rolled) (desk left_desk : Desk) (missed missed_then : ℕ) (ends : AtEnd) (left : Option (List ℕ)) (how : Served) (old new : K)
+        → (first last : Port L) (watch watch_then : Watch) (roll now : Rolled) (desk left_desk : Desk) (missed missed_then : ℕ) (around around_then : O) (ends : AtEnd) (left : Option (List ℕ)) (how : Served) (old new : K)
         (given back : D)
         → (service : Lived K.written K.puts (Gives L.reads L.writes) was_sent faults_of D.size D.honest D.seen D.may_leave
-        D.moment D.left_since D.cuts given back setup roll now desk left_desk missed missed_then ends left how old new
+        D.moment D.left_since D.cuts given back setup roll now desk left_desk missed missed_then (HearsMore O.heard around around_then) ends left how old new
         (record { link = first; watch = watch }) (record { link = last; watch = watch_then }))
         → (found : List Record) (whole : List Entry) → FoundOn D.honest D.seen D.may_leave given setup service.begun found
         → HaveLived L.reads L.writes echoes longest coming silent MOST_RECORDS setup history (history (line_of first)) found
@@ -102,14 +104,14 @@ pub fn the_next_service_starts_over_what_is_left<L: Line, K: Sink, D: Disk>()
 /// records over which the next life starts, as above. And whatever a power cut at a moment of the
 /// service might have left, if its disk held one image alone, is what may be left at one of these
 /// points, or a journal that is just being made. A law: its body is empty.
-pub fn a_service_may_be_killed_at_each_moment<L: Line, K: Sink, D: Disk>()
+pub fn a_service_may_be_killed_at_each_moment<L: Line, K: Sink, D: Disk, O: Outside>()
     ensures { (echoes : Bool) (longest : ℕ) (coming : L → List ℕ) (silent : L → ℕ) (setup : Setup)
         (history : L → List Moment) → IsSoundSetup setup
         → IsHonestLine L.reads L.writes echoes longest coming silent setup history
-        → (first last : Port L) (watch watch_then : Watch) (roll now : Rolled) (desk left_desk : Desk) (missed missed_then : ℕ) (ends : AtEnd) (left : Option (List ℕ)) (how : Served) (old new : K)
+        → (first last : Port L) (watch watch_then : Watch) (roll now : Rolled) (desk left_desk : Desk) (missed missed_then : ℕ) (around around_then : O) (ends : AtEnd) (left : Option (List ℕ)) (how : Served) (old new : K)
         (given back : D)
         → (service : Lived K.written K.puts (Gives L.reads L.writes) was_sent faults_of D.size D.honest D.seen D.may_leave
-        D.moment D.left_since D.cuts given back setup roll now desk left_desk missed missed_then ends left how old new
+        D.moment D.left_since D.cuts given back setup roll now desk left_desk missed missed_then (HearsMore O.heard around around_then) ends left how old new
         (record { link = first; watch = watch }) (record { link = last; watch = watch_then }))
         → (found : List Record) (whole : List Entry) → FoundOn D.honest D.seen D.may_leave given setup service.begun found
         → HaveLived L.reads L.writes echoes longest coming silent MOST_RECORDS setup history (history (line_of first)) found

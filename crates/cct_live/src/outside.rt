@@ -50,6 +50,9 @@ impl<'r, R: Files + Eprint> Around<'r, R> {
 impl<R: Files + Eprint> Outside for Around<'_, R> {
     ghost misses = { λ around. around.misses };
 
+    // Of standard error no clause says what it shows.
+    ghost heard = { λ around refusals. ⊤ };
+
     fn refused(&mut self, number: u32, kind: LineKind, line: &[u8]) {
         let _ = self.rt.eprintln(advise_line(number, kind, line));
     }

@@ -16,6 +16,7 @@ pub mod Stops
 pub mod Found
 pub mod Sessions
 pub mod Saying
+pub mod Hearing
 pub mod Causing
 pub mod Counting
 pub mod Ordering

@@ -30,12 +30,14 @@ use Rattle.cct_live_service.specs.Found.{Begun, FoundOn, base_found, found_there
 use Rattle.cct_live_service.specs.Opening.{BegunOn, given_as, opening_of, opening_over}
 use Rattle.cct_live_service.specs.Laws.{IsLawful}
 use Rattle.cct_live_service.specs.Linked.{UsesLink, Watched}
+use Rattle.cct_live_service.specs.Hears.{Refusal}
 use Rattle.cct_live_service.specs.Lived.{KnownOn, LeftBy, LeftSince, Lived, MissedOn}
 use Rattle.cct_live_service.specs.AtDesk.{Both, FollowsTo}
 use Rattle.cct_live_service.specs.Doing.{FrontOf, IsDone, ServesLines, ends_by}
 use Rattle.cct_live_service.specs.Known.{KnownAfter, MissedFrom}
 use Rattle.cct_live_service.specs.Causes.{SuitsDisk}
 use Rattle.cct_live_service.specs.Parts.{FailedSince, FailedToPut, LivesTo, Part, Plays}
+use Rattle.cct_live_service.specs.Refused.{refusals}
 use Rattle.cct_live_service.specs.Reported.{AreSoWhere}
 use Rattle.cct_live_service.specs.Since.{Given, MayStand, StandsSince, since_turn}
 use Rattle.cct_live_service.specs.Told.{Told, news_of}
@@ -64,7 +66,7 @@ none_before more rs is =
 module _ {K : Type 0} (written : K → Option (List ℕ)) (puts : K → List ℕ → Result (Unit {0}) Failed → K → Type 0)
     {L : Type 0} (gives : L → List ℕ → List ℕ → L → Type 0) (sent : L → Bool) (failures : L → ℕ)
     {D : Type 0} {g : Ghosts D} (given back : D) (host last : Host D g) (begun : Begun)
-    (roll now : Rolled) (desk left_desk : Desk) (missed missed_then : ℕ) (ends : AtEnd) (left : Option (List ℕ))
+    (roll now : Rolled) (desk left_desk : Desk) (missed missed_then : ℕ) (Heard : List Refusal → Type 0) (ends : AtEnd) (left : Option (List ℕ))
     (line next : Watched L)
     (same : setup_of host ≡ setup_of last) (sound : IsSoundSetup (setup_of last)) (back_is : back ≡ disk_of last)
     (began : BegunOn g.seen given (setup_of last) begun)
@@ -173,8 +175,8 @@ module _ {K : Type 0} (written : K → Option (List ℕ)) (puts : K → List ℕ
 
   lived_so : (how : Served) (a b : K) →
       Plays written puts (Both (UsesLink gives sent failures (setup_of host).devices roll now line next) (FollowsTo how desk left_desk))
-      (ServesLines (IsDone how) (KnownOn g.honest g.seen g.may_leave given (setup_of last) begun desk) (MissedOn g.honest g.seen g.may_leave given (setup_of last) begun missed missed_then) (setup_of last) (opening_of (setup_of last) begun) roll.findings (ends_by how ends)) left how a b host last →
-      Lived written puts gives sent failures g.size g.honest g.seen g.may_leave g.moment g.left_since g.cuts given back (setup_of last) roll now desk left_desk missed missed_then ends left how a b
+      (ServesLines (IsDone how) (KnownOn g.honest g.seen g.may_leave given (setup_of last) begun desk) (MissedOn g.honest g.seen g.may_leave given (setup_of last) begun missed missed_then) (setup_of last) (opening_of (setup_of last) begun) roll.findings (ends_by how ends)) (λ lines. Heard (refusals (setup_of last).devices lines)) left how a b host last →
+      Lived written puts gives sent failures g.size g.honest g.seen g.may_leave g.moment g.left_since g.cuts given back (setup_of last) roll now desk left_desk missed missed_then Heard ends left how a b
       line next
   lived_so served.Done a b plays = record {
     begun = begun;
@@ -182,6 +184,7 @@ module _ {K : Type 0} (written : K → Option (List ℕ)) (puts : K → List ℕ
     steps = plays.lives.steps;
     told = plays.lives.told;
     says = plays.says;
+    heard = plays.heard;
     does = plays.lives.does;
     wrote = plays.lives.wrote;
     lived = λ found on.
@@ -205,6 +208,7 @@ module _ {K : Type 0} (written : K → Option (List ℕ)) (puts : K → List ℕ
     steps = plays.lives.steps;
     told = plays.lives.told;
     says = plays.says;
+    heard = plays.heard;
     does = plays.lives.does;
     wrote = plays.lives.wrote;
     lived = λ found on.
@@ -228,6 +232,7 @@ module _ {K : Type 0} (written : K → Option (List ℕ)) (puts : K → List ℕ
     steps = plays.lives.steps;
     told = plays.lives.told;
     says = plays.says;
+    heard = plays.heard;
     does = plays.lives.does;
     wrote = plays.lives.wrote;
     lived = λ found on.
@@ -251,6 +256,7 @@ module _ {K : Type 0} (written : K → Option (List ℕ)) (puts : K → List ℕ
     steps = plays.lives.1.steps;
     told = plays.lives.1.told;
     says = plays.says;
+    heard = plays.heard;
     does = plays.lives.1.does;
     wrote = (plays.lives.0, plays.lives.1.wrote);
     lived = λ found on.
@@ -274,6 +280,7 @@ module _ {K : Type 0} (written : K → Option (List ℕ)) (puts : K → List ℕ
     steps = plays.lives.steps;
     told = plays.lives.told;
     says = plays.says;
+    heard = plays.heard;
     does = plays.lives.does;
     wrote = plays.lives.wrote;
     lived = λ found on.
@@ -295,8 +302,8 @@ module _ {K : Type 0} (written : K → Option (List ℕ)) (puts : K → List ℕ
 
   pub lived_by : (how : Served) (a b : K) →
       Plays written puts (Both (UsesLink gives sent failures (setup_of host).devices roll now line next) (FollowsTo how desk left_desk))
-      (ServesLines (IsDone how) (KnownAfter host desk) (MissedFrom host (Rose missed missed_then)) (setup_of last) (opening_of (setup_of last) begun) roll.findings (ends_by how ends)) left how a b host last →
-      Lived written puts gives sent failures g.size g.honest g.seen g.may_leave g.moment g.left_since g.cuts given back (setup_of last) roll now desk left_desk missed missed_then ends left how a b
+      (ServesLines (IsDone how) (KnownAfter host desk) (MissedFrom host (Rose missed missed_then)) (setup_of last) (opening_of (setup_of last) begun) roll.findings (ends_by how ends)) (λ lines. Heard (refusals (setup_of last).devices lines)) left how a b host last →
+      Lived written puts gives sent failures g.size g.honest g.seen g.may_leave g.moment g.left_since g.cuts given back (setup_of last) roll now desk left_desk missed missed_then Heard ends left how a b
       line next
   lived_by how a b plays =
       let opening = opening_of (setup_of last) begun in
@@ -312,6 +319,7 @@ module _ {K : Type 0} (written : K → Option (List ℕ)) (puts : K → List ℕ
             unread missed_on opening roll.findings (ends_by how ends) plays.lines)
             plays.lives;
         says = plays.says;
+        heard = plays.heard;
       })
 
 -- a host that lived had a disk that it could be started over

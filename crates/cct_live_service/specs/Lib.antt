@@ -1,3 +1,4 @@
+pub mod Hears
 pub mod Input
 pub mod Notice
 pub mod Held
@@ -10,6 +11,7 @@ pub mod AtDesk
 pub mod Ends
 pub mod Known
 pub mod Doing
+pub mod Refused
 pub mod Asked
 pub mod Linked
 pub mod Since

@@ -1,6 +1,6 @@
 -- What a service of a host leaves: what it reported of its life, what is on its disk, and how it
 -- ended.
-use Rattle.std.specs.Prelude.{◌≡◌, ◌⊎◌, Bool, true, ℕ, List, ◌∷◌, ◌++◌, Option, Some, None, Result}
+use Rattle.std.specs.Prelude.{◌≡◌, ◌⊎◌, Bool, true, ℕ, List, [], ◌∷◌, ◌++◌, Option, Some, None, Result}
 use Rattle.std.specs.Prelude.{Ok, Err, reverse}
 use Rattle.cct_edge.specs.Faults.{Rose}
 use Rattle.cct_edge.specs.declared.fault.Failed.{Failed}
@@ -25,10 +25,12 @@ use Rattle.cct_live_service.specs.Causes.{IsDiskFault}
 use Rattle.cct_live_service.specs.Doing.{FrontOf, IsDone, ServesLines, ends_by}
 use Rattle.cct_live_service.specs.Ending.{IsOfDisk, closed_by, last_told}
 use Rattle.cct_live_service.specs.Found.{Begun, FoundOn, base_found, was_found}
+use Rattle.cct_live_service.specs.Hears.{Refusal}
 use Rattle.cct_live_service.specs.Known.{Knows}
 use Rattle.cct_live_service.specs.Laws.{IsLawful}
 use Rattle.cct_live_service.specs.Linked.{UsesLink, Watched}
 use Rattle.cct_live_service.specs.Opening.{BegunOn, opening_of, opening_over}
+use Rattle.cct_live_service.specs.Refused.{refusals}
 use Rattle.cct_live_service.specs.Reported.{AreSoWhere}
 use Rattle.cct_live_service.specs.Since.{MayStand, since_turn}
 use Rattle.cct_live_service.specs.Said.{Said, Says}
@@ -114,13 +116,15 @@ module _ {K : Type 0} (written : K → Option (List ℕ))
   -- found on the disk, whichever these are; and the disk has the records of that life. What went
   -- over the link are the exchanges that were reported, and questions of the roll.
   pub record Lived (setup : Setup) (roll now : Rolled) (desk left_desk : Desk)
-      (missed missed_then : ℕ) (ends : AtEnd) (left : Option (List ℕ))
-      (how : Served) (old new : K) (line last : Watched L) : Type 0 where
+      (missed missed_then : ℕ) (Heard : List Refusal → Type 0) (ends : AtEnd)
+      (left : Option (List ℕ)) (how : Served) (old new : K) (line last : Watched L) : Type 0 where
     pub begun : Begun
     pub lines : List Said
     pub steps : List LiveStep
     pub told : List Told
     pub says : Says left lines how
+    -- The program around it heard of those lines that are refused.
+    pub heard : Heard (refusals setup.devices lines)
     pub does : DoesTo (ServesLines (IsDone how)
         (KnownOn honest seen may_leave given setup begun desk)
         (MissedOn honest seen may_leave given setup begun missed missed_then) setup
@@ -155,23 +159,23 @@ module _ {K : Type 0} (written : K → Option (List ℕ))
         → (IsDiskFault how → ⊥) → records (news_of told ++ started found) ≡ found
         → OnlyReads size honest seen may_leave moment left_since cuts given back
 
-  -- A host lived; or none was started, by what the disk had, nothing was reported, and the link
-  -- wasn't used.
-  abbrev pub LivedOrNot : Setup → Rolled → Rolled → Desk → Desk → ℕ → ℕ → AtEnd → Option (List ℕ) →
-      Served → K → K → Watched L → Watched L → Type 0
-  LivedOrNot setup roll now desk left_desk missed missed_then ends left how old new line last =
-      Lived setup roll now desk left_desk missed missed_then ends left how old new line last
-      ⊎ (IsOfDisk how × (new ≡ old) × (now ≡ roll) × (left_desk ≡ desk) × (last ≡ line))
+  -- A host lived; or none was started, by what the disk had, nothing was reported or heard of, and
+  -- the link wasn't used.
+  abbrev pub LivedOrNot : Setup → Rolled → Rolled → Desk → Desk → ℕ → ℕ →
+      (List Refusal → Type 0) → AtEnd → Option (List ℕ) → Served → K → K → Watched L → Watched L → Type 0
+  LivedOrNot setup roll now desk left_desk missed missed_then Heard ends left how old new line last =
+      Lived setup roll now desk left_desk missed missed_then Heard ends left how old new line last
+      ⊎ (IsOfDisk how × (new ≡ old) × (now ≡ roll) × (left_desk ≡ desk) × (last ≡ line) × Heard [])
 
   -- And then the last line was reported, where there is one.
   pub record Closed (setup : Setup) (roll now : Rolled) (desk left_desk : Desk)
-      (missed missed_then : ℕ) (ends : AtEnd)
+      (missed missed_then : ℕ) (Heard : List Refusal → Type 0) (ends : AtEnd)
       (left : Option (List ℕ)) (result : Served)
       (old new : K) (line last : Watched L) : Type 0 where
     pub how : Served
     pub between : K
     pub answer : Result (Unit {0}) Failed
-    pub lived : LivedOrNot setup roll now desk left_desk missed missed_then ends left how old
+    pub lived : LivedOrNot setup roll now desk left_desk missed missed_then Heard ends left how old
         between line last
     pub wrote : WritesTold written puts between (last_told how) answer new
     pub result_is : result ≡ closed_by answer how

@@ -114,13 +114,14 @@ module _ {K : Type 0} (written : K → Option (List ℕ))
   LivesTo Linked Doing served.Unread = LivesOn Linked Doing (Ok tt)
   LivesTo Linked Doing how = LivesOn Linked Doing (Err how)
 
-  -- A host lived to this end for what its input said.
+  -- A host lived to this end for what its input said, and the program around it heard of it.
   pub record Plays (Linked : List Told → Type 0)
-      (Doing : List Said → List LiveStep → List Told → Type 0)
+      (Doing : List Said → List LiveStep → List Told → Type 0) (Heard : List Said → Type 0)
       (left : Option (List ℕ)) (how : Served) (out out1 : K) (old new : Host D g) : Type 0 where
     pub lines : List Said
     pub lives : LivesTo Linked (Doing lines) how out out1 old new
     pub says : Says left lines how
+    pub heard : Heard lines
 
 -- of a sink with a count of faults
 module _ {K : Type 0} (written : K → Option (List ℕ))

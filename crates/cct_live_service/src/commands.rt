@@ -7,6 +7,7 @@ ghost use Rattle.cct_model.specs.Script.{IsCommand};
 ghost use Rattle.cct_model.specs.lines.entry.Entry.{Entry};
 ghost use Rattle.cct_live_service.specs.AtDesk.{Both, IsApart};
 ghost use Rattle.cct_live_service.specs.Doing.{DoesCommand, IsOrder, IsStatus, TellsOne};
+ghost use Rattle.cct_live_service.specs.Hears.{HearsMore};
 ghost use Rattle.cct_live_service.specs.Known.{MissedFrom};
 ghost use Rattle.cct_live_service.specs.Linked.{AreQuiet, AreStanding};
 ghost use Rattle.cct_live_service.specs.Parts.{Acts, HostGoes};
@@ -149,6 +150,7 @@ pub(crate) fn order<K: Sink, D: Disk + Drop, O: Beside<D>>(
         result out.old out.new host.old host.new }
     ensures watch { page.new.watch ≡ page.old.watch }
     ensures later { O.misses outside.old ≤ O.misses outside.new }
+    ensures heard { HearsMore O.heard outside.old outside.new [] }
 {
     let told = order_told(host, id, outside);
     by_writing(tell(out, &mut page.line, &Notice::Order { id, told }))
@@ -164,6 +166,7 @@ fn order_told<D: Disk + Drop, O: Beside<D>>(
         IsJust (open_in (setup_of host.now) past id) result }
     ensures is { IsOrderOf host.now id (Rose (O.misses outside.old) (O.misses outside.new)) result }
     ensures later { O.misses outside.old ≤ O.misses outside.new }
+    ensures heard { HearsMore O.heard outside.old outside.new [] }
 {
     match open_order(host, id) {
         Some(told) => told,

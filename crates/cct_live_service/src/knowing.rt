@@ -1,10 +1,11 @@
 //! What the journal knows now, read beside the host that goes on with it.
-ghost use Rattle.std.specs.Prelude.{◌≡◌, ◌≢◌, ◌≤◌, ℕ, List, Some, IsErr, false};
+ghost use Rattle.std.specs.Prelude.{◌≡◌, ◌≢◌, ◌≤◌, [], ℕ, List, Some, IsErr, false};
 ghost use Rattle.cct_edge.specs.Bytes.{Serves};
 ghost use Rattle.cct_edge.specs.Faults.{Caused, Rose};
 ghost use Rattle.cct_host.specs.Host.{disk_of, has_failed};
 ghost use Rattle.cct_live_service.specs.AtDesk.{Both, IsApart};
 ghost use Rattle.cct_live_service.specs.Doing.{IsStating};
+ghost use Rattle.cct_live_service.specs.Hears.{HearsMore};
 ghost use Rattle.cct_live_service.specs.Known.{MissedFrom};
 ghost use Rattle.cct_live_service.specs.Linked.{AreQuiet};
 ghost use Rattle.cct_live_service.specs.Parts.{Acts};
@@ -37,6 +38,7 @@ pub(crate) fn state<K: Sink, D: Disk + Drop, O: Beside<D>>(
         result out.old out.new host.old host.new }
     ensures watch { page.new.watch ≡ page.old.watch }
     ensures later { O.misses outside.old ≤ O.misses outside.new }
+    ensures heard { HearsMore O.heard outside.old outside.new [] }
 {
     by_writing(tell_known(host, outside, out, &mut page.line))
 }
@@ -53,6 +55,7 @@ fn tell_known<K: Sink, D: Disk + Drop, O: Beside<D>>(
         out.new }
     ensures serves { Serves K.written K.faults out.old out.new (IsErr result) }
     ensures later { O.misses outside.old ≤ O.misses outside.new }
+    ensures heard { HearsMore O.heard outside.old outside.new [] }
 {
     match outside.beside(host.disk()) {
         Some(disk) => tell_disk(host, disk, outside, out, line),
@@ -75,6 +78,7 @@ fn tell_disk<K: Sink, D: Disk + Drop, O: Beside<D>>(
         out.new }
     ensures serves { Serves K.written K.faults out.old out.new (IsErr result) }
     ensures later { O.misses outside.old ≤ O.misses outside.new }
+    ensures heard { HearsMore O.heard outside.old outside.new [] }
 {
     let (how, disk) = tell_state(out, line, Some(host.setup()), disk);
     match how {
@@ -91,6 +95,7 @@ fn tell_disk<K: Sink, D: Disk + Drop, O: Beside<D>>(
 fn count_miss<D: Disk + Drop, O: Beside<D>>(why: OpenNo, disk: D, outside: &mut O)
     requires failed { why ≡ OpenNo.Disk → D.faults disk ≢ 0 }
     ensures missed { Caused (O.misses outside.old) (O.misses outside.new) (why ≡ OpenNo.Disk) }
+    ensures heard { HearsMore O.heard outside.old outside.new [] }
 {
     match why {
         OpenNo::Disk => outside.failed(disk),
@@ -115,6 +120,7 @@ pub(crate) fn recorded_order<D: Disk + Drop, O: Beside<D>>(
 ) -> OrderTold
     ensures is { IsRecorded host.now id (Rose (O.misses outside.old) (O.misses outside.new)) result }
     ensures later { O.misses outside.old ≤ O.misses outside.new }
+    ensures heard { HearsMore O.heard outside.old outside.new [] }
 {
     match outside.beside(host.disk()) {
         Some(disk) => read_order(disk, id, outside),
@@ -128,6 +134,7 @@ fn read_order<D: Disk + Drop, O: Beside<D>>(disk: D, id: u32, outside: &mut O) -
     ensures looks { (image : List ℕ) → D.seen disk ≡ Some image
         → LooksUp image id (Rose (O.misses outside.old) (O.misses outside.new)) result }
     ensures later { O.misses outside.old ≤ O.misses outside.new }
+    ensures heard { HearsMore O.heard outside.old outside.new [] }
 {
     let (told, disk) = order_on(disk, id);
     match told {

@@ -1,6 +1,6 @@
 //! What the input says is done, line by line, and each entry is written before the next line is
 //! read.
-ghost use Rattle.std.specs.Prelude.{◌≡◌, ◌≤◌, false, Ok, IfErr, IfOk};
+ghost use Rattle.std.specs.Prelude.{◌≡◌, ◌≤◌, ◌∷◌, [], false, Ok, IfErr, IfOk};
 ghost use Rattle.cct_edge.specs.Bytes.{Serves};
 ghost use Rattle.cct_edge.specs.Faults.{Rose};
 ghost use Rattle.cct_host.specs.Host.{disk_of, has_failed, setup_of};
@@ -15,9 +15,11 @@ ghost use Rattle.cct_live_service.specs.Causes.{DiskServes, EndsBy, IsDiskFault,
 ghost use Rattle.cct_live_service.specs.Causes.{IsUnwritten};
 ghost use Rattle.cct_live_service.specs.Doing.{Decides, Does, DoesLine, DoesLines, Finds};
 ghost use Rattle.cct_live_service.specs.Doing.{IsAttempt, MakesAttempts, Tells, is_known};
+ghost use Rattle.cct_live_service.specs.Hears.{HearsMore};
 ghost use Rattle.cct_live_service.specs.Known.{KnownAfter, MissedFrom, Rested};
 ghost use Rattle.cct_live_service.specs.Linked.{AreQuiet, Exchanges, UsesLink, watched};
 ghost use Rattle.cct_live_service.specs.Parts.{Acts, Plays};
+ghost use Rattle.cct_live_service.specs.Refused.{next_unread, refusals, unnamed, unread};
 ghost use Rattle.cct_live_service.specs.Said.{ComesNext, IsOfInput, IsSayable, stopped_by};
 ghost use Rattle.cct_live_service.specs.Said.{unless_end};
 ghost use Rattle.cct_live_service.specs.Told.{refused};
@@ -64,7 +66,9 @@ pub(crate) fn play<S: Source, K: Sink, D: Disk + Drop, L: CountedLink, O: Beside
         (watched link.old page.old) (watched link.new page.new))
         (FollowsTo result desk.old desk.new))
         (DoesLines (KnownAfter host.old desk.old)
-        (MissedFrom host.old (Rose (O.misses outside.old) (O.misses outside.new))) (setup_of host.old) roll.old.findings) (S.left input.old) result out.old out.new host.old host.new }
+        (MissedFrom host.old (Rose (O.misses outside.old) (O.misses outside.new))) (setup_of host.old) roll.old.findings)
+        (λ lines. HearsMore O.heard outside.old outside.new (refusals (setup_of host.old).devices lines))
+        (S.left input.old) result out.old out.new host.old host.new }
     ensures input { Serves S.left S.faults input.old input.new (IsUnread result) }
     ensures sink { Serves K.written K.faults out.old out.new (IsUnwritten result) }
     ensures disk { DiskServes D.size D.honest D.seen D.cuts D.faults (disk_of host.old) (disk_of host.new)
@@ -102,6 +106,7 @@ fn next_line<S: Source, O: Outside>(
     ensures ends { IfErr result IsOfInput }
     ensures serves { Serves S.left S.faults input.old input.new (EndsBy IsUnread result) }
     ensures later { O.misses outside.old ≤ O.misses outside.new }
+    ensures heard { HearsMore O.heard outside.old outside.new (next_unread number result) }
 {
     match lines.line(input) {
         Ok(NextLine::Text(line)) => {
@@ -130,6 +135,7 @@ fn tell_refusal<O: Outside>(
     outside: &mut O,
 )
     ensures later { O.misses outside.old ≤ O.misses outside.new }
+    ensures heard { HearsMore O.heard outside.old outside.new (unread number said) }
 {
     match said {
         Ok(_) => {}
@@ -182,6 +188,7 @@ fn take_line<K: Sink, D: Disk + Drop, L: CountedLink, O: Beside<D>>(
         (MissedFrom host.old (Rose (O.misses outside.old) (O.misses outside.new))) (setup_of host.old).devices roll.old.findings number line.now))
         result out.old out.new host.old host.new }
     ensures later { O.misses outside.old ≤ O.misses outside.new }
+    ensures heard { HearsMore O.heard outside.old outside.new (unnamed (setup_of host.old).devices number line.now) }
 {
     match line {
         Ok(InputLine::Host(said)) => {
@@ -230,6 +237,7 @@ fn refuse_unknown<K: Sink, D: Disk, O: Outside>(
         result out.old out.new host.old host.new }
     ensures watch { page.new.watch ≡ page.old.watch }
     ensures later { O.misses outside.old ≤ O.misses outside.new }
+    ensures heard { HearsMore O.heard outside.old outside.new ((number, kind.Device) ∷ []) }
 {
     write_stock(&mut page.line, said);
     outside.refused(number, LineKind::Device, page.line.as_slice());
@@ -283,6 +291,7 @@ fn obey<K: Sink, D: Disk + Drop, L: CountedLink, O: Beside<D>>(
         (MissedFrom host.old (Rose (O.misses outside.old) (O.misses outside.new))) (setup_of host.old).devices roll.old.findings said.now))
         result out.old out.new host.old host.new }
     ensures later { O.misses outside.old ≤ O.misses outside.new }
+    ensures heard { HearsMore O.heard outside.old outside.new [] }
 {
     match said {
         LiveLine::Command(command) => decide(host, roll, command, out, link, page),

@@ -10,11 +10,13 @@ ghost use Rattle.cct_live_service.specs.Causes.{DiskServes, IsDiskFault, IsUnrea
 ghost use Rattle.cct_live_service.specs.Causes.{SuitsDisk};
 ghost use Rattle.cct_live_service.specs.Doing.{IsDone, PlaysLines, ServesLines, ends_by};
 ghost use Rattle.cct_live_service.specs.Found.{Begun, was_found};
+ghost use Rattle.cct_live_service.specs.Hears.{HearsMore};
 ghost use Rattle.cct_live_service.specs.Known.{KnownAfter, MissedFrom};
 ghost use Rattle.cct_live_service.specs.Lived.{Closed, LivedOrNot};
 ghost use Rattle.cct_live_service.specs.Linked.{UsesLink, watched};
 ghost use Rattle.cct_live_service.specs.Opening.{HasBegun, opening_of};
 ghost use Rattle.cct_live_service.specs.Parts.{Plays};
+ghost use Rattle.cct_live_service.specs.Refused.{refusals};
 ghost use Rattle.cct_live_service.specs.Said.{IsOfInput};
 
 use crate::beside::Beside;
@@ -57,11 +59,12 @@ pub fn serve<S: Source, K: Sink, D: Disk + Drop, L: CountedLink, O: Beside<D>>(
     // over the records that the disk had, whatever is heard; and how it ended. First it was
     // reported what the disk had: a journal was made only where no byte but 0 was, and else the
     // numbers are those of the records that were found. What went over the link are the exchanges
-    // that were reported, and the questions of the roll, and nothing else.
+    // that were reported, and the questions of the roll, and nothing else. The program around it
+    // heard of the lines that are refused, of each once, in their order, and of no other one.
     ensures lived { Closed K.written K.puts L.gives L.sent L.failures D.size D.honest D.seen D.may_leave D.moment
         D.left_since D.cuts disk result.1 setup.now roll.old roll.new desk.old desk.new (O.misses outside.old)
-        (O.misses outside.new) ends (S.left input.old) result.0 out.old out.new
-        (watched link.old page.old) (watched link.new page.new) }
+        (O.misses outside.new) (HearsMore O.heard outside.old outside.new) ends (S.left input.old) result.0 out.old
+        out.new (watched link.old page.old) (watched link.new page.new) }
 
     // Each end has its cause; the input's own are in the clause above.
     ensures read_cause { result.0 ≡ Served.Unread → Rose (S.faults input.old) (S.faults input.new) }
@@ -102,8 +105,8 @@ fn live<S: Source, K: Sink, D: Disk + Drop, L: CountedLink, O: Beside<D>>(
     requires sound { IsSoundSetup setup.now }
     ensures lived { LivedOrNot K.written K.puts L.gives L.sent L.failures D.size D.honest D.seen D.may_leave D.moment
         D.left_since D.cuts disk result.1 setup.now roll.old roll.new desk.old desk.new (O.misses outside.old)
-        (O.misses outside.new) ends (S.left input.old) result.0 out.old out.new
-        (watched link.old page.old) (watched link.new page.new) }
+        (O.misses outside.new) (HearsMore O.heard outside.old outside.new) ends (S.left input.old) result.0 out.old
+        out.new (watched link.old page.old) (watched link.new page.new) }
     ensures suits { SuitsDisk D.size D.honest D.seen D.may_leave D.moment D.left_since D.cuts disk result.1 setup.now
         result.0 }
     ensures size { D.size disk ≢ files.MADE_LEN → result.0 ≡ Served.OtherSize (D.size disk) }
@@ -144,8 +147,9 @@ fn live_on<S: Source, K: Sink, D: Disk + Drop, L: CountedLink, O: Beside<D>>(
         (watched link.old page.old) (watched link.new page.new))
         (FollowsTo result desk.old desk.new))
         (ServesLines (IsDone result) (KnownAfter host.old desk.old)
-        (MissedFrom host.old (Rose (O.misses outside.old) (O.misses outside.new))) (setup_of host.old) (opening_of (setup_of host.old) begun) roll.old.findings (ends_by result ends)) (S.left input.old) result out.old out.new
-        host.old host.new }
+        (MissedFrom host.old (Rose (O.misses outside.old) (O.misses outside.new))) (setup_of host.old) (opening_of (setup_of host.old) begun) roll.old.findings (ends_by result ends))
+        (λ lines. HearsMore O.heard outside.old outside.new (refusals (setup_of host.old).devices lines))
+        (S.left input.old) result out.old out.new host.old host.new }
     ensures input { Serves S.left S.faults input.old input.new (IsUnread result) }
     ensures sink { Serves K.written K.faults out.old out.new (IsUnwritten result) }
     ensures disk { DiskServes D.size D.honest D.seen D.cuts D.faults (disk_of host.old) (disk_of host.new)
@@ -180,8 +184,9 @@ fn open_and_play<S: Source, K: Sink, D: Disk + Drop, L: CountedLink, O: Beside<D
         (watched link.old page.old) (watched link.new page.new))
         (FollowsTo result desk.old desk.new))
         (PlaysLines (KnownAfter host.old desk.old)
-        (MissedFrom host.old (Rose (O.misses outside.old) (O.misses outside.new))) (setup_of host.old) (opening_of (setup_of host.old) begun) roll.old.findings) (S.left input.old) result out.old out.new
-        host.old host.new }
+        (MissedFrom host.old (Rose (O.misses outside.old) (O.misses outside.new))) (setup_of host.old) (opening_of (setup_of host.old) begun) roll.old.findings)
+        (λ lines. HearsMore O.heard outside.old outside.new (refusals (setup_of host.old).devices lines))
+        (S.left input.old) result out.old out.new host.old host.new }
     ensures input { Serves S.left S.faults input.old input.new (IsUnread result) }
     ensures sink { Serves K.written K.faults out.old out.new (IsUnwritten result) }
     ensures disk { DiskServes D.size D.honest D.seen D.cuts D.faults (disk_of host.old) (disk_of host.new)

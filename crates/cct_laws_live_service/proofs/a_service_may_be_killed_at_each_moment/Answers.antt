@@ -1,5 +1,3 @@
-use Rattle.cct_journal.specs.declared.format.TheConstants.{MOST_RECORDS}
-use Rattle.cct_live_port.specs.Port.{Gives}
 use Rattle.cct_live_service.specs.Found.{was_found}
 use Rattle.cct_live_service.specs.Told.{news_of}
 use Rattle.cct_laws_live_service.proofs.HandingOn.{told_next}
@@ -9,10 +7,10 @@ use Rattle.cct_laws_live_service.proofs.a_service_may_be_killed_at_each_moment.G
 
 pub returns : goal.returns
 returns c start =
-    λ echoes longest coming silent setup history sound line first last watch watch_then roll now desk left_desk missed missed_then ends left how old new given back service found whole
+    λ echoes longest coming silent setup history sound line first last watch watch_then roll now desk left_desk missed missed_then around around_then ends left how old new given back service found whole
     there lives port.
     let life = (service.lived found there).0 in
-    let chain = service_chain _ _ _ _ _ _ _ _ _ _ _ setup sound first last watch watch_then roll now desk left_desk missed missed_then ends left how old new given back service found
+    let chain = service_chain _ _ _ _ _ _ _ _ _ _ _ setup sound first last watch watch_then roll now desk left_desk missed missed_then _ ends left how old new given back service found
     there in (
       λ point.
           let right = point_right _ _ echoes longest coming silent setup history sound line first last found whole lives port _ point in (

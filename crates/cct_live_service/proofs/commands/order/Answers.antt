@@ -29,4 +29,5 @@ returns g c =
           c.tell.ensures.serves);
       watch = refl;
       later = c.order_told-told.ensures.later;
+      heard = c.order_told-told.ensures.heard;
     }

@@ -17,6 +17,7 @@ returns-in-Some g c =
       is = order_open host c.args.id missed c.in-Some.told
           (λ past keeps. sym (c.open_order.ensures.known past keeps) ∙ c.in-Some.is);
       later = omega arith;
+      heard = λ before h. h;
     }
 
 pub returns-in-None : goal.returns-in-None
@@ -31,4 +32,5 @@ returns-in-None g c =
       is = order_closed host c.args.id missed told
           (λ past keeps. sym (c.open_order.ensures.known past keeps) ∙ c.in-None.is) c.recorded_order.ensures.is;
       later = c.recorded_order.ensures.later;
+      heard = c.recorded_order.ensures.heard;
     }

@@ -25,4 +25,5 @@ returns g c =
           c.requires.whole c.tell_known.ensures.serves);
       watch = refl;
       later = c.tell_known.ensures.later;
+      heard = c.tell_known.ensures.heard;
     }

@@ -63,4 +63,5 @@ returns-in-Unread g c =
           (λ none. absurd none) how.ensures.sink)
           c.tell_unread.ensures.serves (IsErr answer) (λ fails. inr fails);
       later = c.count_miss.ensures.missed.later;
+      heard = c.count_miss.ensures.heard;
     }

@@ -4,7 +4,10 @@ use Rattle.cct_edge.specs.Bytes.{Serves}
 use Rattle.cct_script.specs.declared.lines.LinesNo.TheVariants.{Read}
 use Rattle.cct_script.specs.Endless.{GivesNext, held_of, next_given}
 use Rattle.cct_live_service.specs.Causes.{EndsBy, IsUnread}
+use Rattle.cct_live_service.specs.Hears.{HearsMore}
+use Rattle.cct_live_service.specs.Refused.{next_unread}
 use Rattle.cct_live_service.specs.Said.{ComesNext, IsOfInput, IsSayable, stopped_by, unless_end}
+use Rattle.cct_live_service.proofs.Hearing.{unread_next}
 use Rattle.cct_live_service.proofs.Parts.{serves_weaker}
 use Rattle.cct_live_service.proofs.Saying.{comes_long, comes_said, comes_stopped, said_ends, said_not_unread, said_sayable, stopped_ends, stopped_unread}
 use Rattle.cct_live_service.proofs.play.next_line.Goals as goal
@@ -32,6 +35,9 @@ returns-in-Ok-Text g c =
           (serves_weaker source.left source.faults c.args.input.now c.line.new.source (c.line.result ≡ Err Read) ⊥
           (λ never. absurd never) c.line.ensures.serves));
       later = c.tell_refusal.ensures.later;
+      heard = subst (λ r. HearsMore g.O.Outside.heard c.args.outside.now c.tell_refusal.new.outside (next_unread c.args.number r)) is
+          (subst (HearsMore g.O.Outside.heard c.args.outside.now c.tell_refusal.new.outside) (sym (unread_next c.args.number said))
+          c.tell_refusal.ensures.heard);
     }
 
 pub returns-in-Ok-Long-clause-comes : goal.returns-in-Ok-Long-clause-comes
@@ -64,4 +70,5 @@ returns-in-Err g c =
           (IsUnread (stopped_by c.args.number why))
           (λ fails. c.in-Err.is ∙ ap (λ w. Err w) (stopped_unread c.args.number why fails)) c.line.ensures.serves);
       later = omega arith;
+      heard = λ before h. h;
     }

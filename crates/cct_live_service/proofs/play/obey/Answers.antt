@@ -47,6 +47,7 @@ returns-in-Next g c =
           (acts_weaker sink.written sink.puts sink.faults result out out1 host after does (Finds known known does)
           (finds_none known does (attempt_finds c.in-Next.addr)) c.next.ensures.acts));
       later = omega arith;
+      heard = λ before h. h;
     }
 
 pub returns-in-Do : goal.returns-in-Do
@@ -76,6 +77,7 @@ returns-in-Do g c =
           (acts_weaker sink.written sink.puts sink.faults result out out1 host after does (Finds known known does)
           (finds_none known does (attempts_find until_of.Ended c.in-Do.addr)) c.do_job.ensures.acts));
       later = omega arith;
+      heard = λ before h. h;
     }
 
 pub returns-in-Balance : goal.returns-in-Balance
@@ -106,6 +108,7 @@ returns-in-Balance g c =
           (acts_weaker sink.written sink.puts sink.faults result out out1 host after does (Finds known known does)
           (finds_none known does (one_finds live.balance)) c.balance.ensures.acts)));
       later = omega arith;
+      heard = λ before h. h;
     }
 
 pub returns-in-Status : goal.returns-in-Status
@@ -138,6 +141,7 @@ returns-in-Status g c =
           (acts_weaker sink.written sink.puts sink.faults result out out1 host after does (Finds known known does)
           (finds_none known does (status_finds devices)) c.status.ensures.acts)));
       later = omega arith;
+      heard = λ before h. h;
     }
 
 pub returns-in-Order : goal.returns-in-Order
@@ -168,6 +172,7 @@ returns-in-Order g c =
           (acts_weaker sink.written sink.puts sink.faults result out out1 host after does (Finds known known does)
           (finds_none known does (order_finds missed c.in-Order.id)) c.order.ensures.acts)));
       later = c.order.ensures.later;
+      heard = c.order.ensures.heard;
     }
 
 pub returns-in-Stock : goal.returns-in-Stock
@@ -198,6 +203,7 @@ returns-in-Stock g c =
           (acts_weaker sink.written sink.puts sink.faults result out out1 host after does (Finds known known does)
           (finds_none known does (step_finds s)) c.count_stock.ensures.acts));
       later = omega arith;
+      heard = λ before h. h;
     }
 
 pub returns-in-Change : goal.returns-in-Change
@@ -228,6 +234,7 @@ returns-in-Change g c =
           (acts_weaker sink.written sink.puts sink.faults result out out1 host after does (Finds known known does)
           (finds_none known does (step_finds s)) c.begin_session.ensures.acts));
       later = omega arith;
+      heard = λ before h. h;
     }
 
 pub begin_session-requires : goal.begin_session-requires
@@ -261,4 +268,5 @@ returns-in-Command g c =
           (watched c.decide.new.link c.decide.new.page) desk result out out1 host after (Finds known now (Decides known c.in-Command.command))
           c.decide.ensures.acts);
       later = omega arith;
+      heard = λ before h. h;
     }

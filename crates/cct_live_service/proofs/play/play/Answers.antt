@@ -1,4 +1,4 @@
-use Rattle.std.proofs.Common.{◌≡◌, ◌∷◌, [], Ok, Err, refl, inr, sym, subst, arith, length}
+use Rattle.std.proofs.Common.{◌≡◌, ◌∷◌, ◌++◌, [], Ok, Err, refl, inr, sym, subst, ap, arith, length}
 use Rattle.cct_edge.specs.Faults.{Rose}
 use Rattle.cct_edge.proofs.Chains.{Rose-earlier, Rose-later}
 use Rattle.cct_host.specs.Host.{disk_of, setup_of}
@@ -8,10 +8,12 @@ use Rattle.cct_live_service.specs.AtDesk.{Both, FollowsDesk}
 use Rattle.cct_live_service.specs.Doing.{DoesLine, DoesLines, Finds}
 use Rattle.cct_live_service.specs.Known.{KnownAfter, MissedFrom, Rested}
 use Rattle.cct_live_service.specs.Linked.{UsesLink, watched}
+use Rattle.cct_live_service.specs.Refused.{refusals}
 use Rattle.cct_live_service.specs.Said.{HasSaid}
 use Rattle.cct_live_service.proofs.Causing.{input_no_fault, input_not_unwritten, unread_of_input}
 use Rattle.cct_live_service.proofs.Doings.{lines_missed, next_number}
 use Rattle.cct_live_service.proofs.Found.{lines_none, lines_then}
+use Rattle.cct_live_service.proofs.Hearing.{hears_line}
 use Rattle.cct_live_service.proofs.KnownLater.{Knowing, acts_knowing, later_then, missed_later, missed_weaker, rested_later}
 use Rattle.cct_live_service.proofs.Linking.{lives_end, lives_stop, roll_desk, roll_none}
 use Rattle.cct_live_service.proofs.Parts.{acts_weaker, breaks, disk_weaker, lives_weaker, serves_none, serves_then, serves_weaker}
@@ -36,6 +38,7 @@ loop-number-init g c =
           devices c.args.roll.now (watched c.args.link.now c.args.page.now) (FollowsDesk (Ok tt) c.args.desk.now c.args.desk.now) refl c.args.out.now
           c.args.host.now (Finds first first (DoesLines knows (MissedFrom c.args.host.now (Rose (misses c.args.outside.now) (misses c.args.outside.now))) setup first [])) c.requires.whole (lines_none knows (MissedFrom c.args.host.now (Rose (misses c.args.outside.now) (misses c.args.outside.now))) setup first);
       later = omega arith;
+      heard = λ before h. h;
       says = subst (λ held. HasSaid left [] held left) (sym c.new-lines.ensures) (said_none left);
       serves = serves_none source.left source.faults c.args.input.now ⊥ (λ fails. fails);
     }
@@ -79,6 +82,7 @@ returns-in-Err g c =
         says = said_all c.loop-number.number how (source.left c.args.input.now) (source.left c.loop-number.input)
             (source.left c.next_line.new.input) (held_of c.loop-number.lines) (held_of c.next_line.new.lines) before.said
             before.count before.says c.in-Err.ensures.comes;
+        heard = λ earlier h. c.in-Err.ensures.heard (refusals devices before.said ++ earlier) (before.heard earlier h);
       };
       input = serves_then source.left source.faults c.args.input.now c.loop-number.input c.next_line.new.input ⊥
           (IsUnread how) before.serves c.in-Err.ensures.serves (IsUnread how) (λ fails. inr fails);
@@ -154,6 +158,9 @@ returns-in-Err-take_line g c =
             (line ∷ before.said) other
             (said_more number left (source.left c.loop-number.input) (source.left c.next_line.new.input)
             (held_of c.loop-number.lines) (held_of c.next_line.new.lines) before.said line before.says c.in-Ok.ensures.comes);
+        heard = hears_line g.O.Outside.heard c.args.outside.now c.loop-number.outside c.next_line.new.outside c.take_line.new.outside devices
+            (setup_of c.loop-number.host).devices (ap (λ s. s.devices) before.acts.setup) before.said number line before.count before.heard
+            c.in-Ok.ensures.heard c.take_line.ensures.heard;
       };
       input = serves_then source.left source.faults c.args.input.now c.loop-number.input c.next_line.new.input ⊥ ⊥
           before.serves c.in-Ok.ensures.serves (IsUnread how) (λ fails. inr (other (unread_of_input how fails)));
@@ -212,6 +219,9 @@ loop-number-preserved g c =
           c.in-Ok-take_line.ensures.acts;
       says = said_more number left (source.left c.loop-number.input) (source.left c.next_line.new.input)
           (held_of c.loop-number.lines) (held_of c.next_line.new.lines) before.said line before.says c.in-Ok.ensures.comes;
+      heard = hears_line g.O.Outside.heard c.args.outside.now c.loop-number.outside c.next_line.new.outside c.take_line.new.outside devices
+          (setup_of c.loop-number.host).devices (ap (λ s. s.devices) before.acts.setup) before.said number line before.count before.heard
+          c.in-Ok.ensures.heard c.take_line.ensures.heard;
       serves = serves_then source.left source.faults c.args.input.now c.loop-number.input c.next_line.new.input ⊥ ⊥
           before.serves c.in-Ok.ensures.serves ⊥ (λ fails. inr fails);
     }
@@ -242,6 +252,7 @@ returns g c =
             c.loop-number.host (Finds first c.loop-number.roll.findings does) does (λ s t h. h.0) before.acts.lives;
         says = said_many (source.left c.args.input.now) (source.left c.loop-number.input) (held_of c.loop-number.lines)
             before.said (omega (arith, before.count, last)) before.says;
+        heard = before.heard;
       };
       input = before.serves;
       sink = before.acts.sink;

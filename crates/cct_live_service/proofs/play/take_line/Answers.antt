@@ -4,10 +4,12 @@ use Rattle.cct_host.specs.Host.{setup_of}
 use Rattle.cct_model.specs.lines.entry.LineKind.TheVariants as kind
 use Rattle.cct_live_service.specs.AtDesk.{Both, FollowsDesk}
 use Rattle.cct_live_service.specs.Doing.{Does, DoesLine, Finds, IsStating, Tells, is_known}
+use Rattle.cct_live_service.specs.Hears.{HearsMore}
 use Rattle.cct_live_service.specs.Known.{MissedFrom, Rested}
 use Rattle.cct_live_service.specs.declared.input.InputLine.TheVariants as input
 use Rattle.cct_live_service.specs.Linked.{UsesLink, watched}
 use Rattle.cct_live_service.specs.Parts.{Acts}
+use Rattle.cct_live_service.specs.Refused.{unless_named, unnamed}
 use Rattle.cct_live_service.specs.Told.{refused}
 use Rattle.cct_live_service.proofs.Found.{finds_none, finds_weaker, tells_finds}
 use Rattle.cct_live_service.proofs.Knows.{stating_finds}
@@ -47,6 +49,8 @@ returns-in-Err g c =
           c.refuse.new.host does (Finds known known does) (finds_none known does (tells_finds number c.in-Err.kind))
           c.refuse.ensures.acts)));
       later = omega arith;
+      heard = subst (λ said. HearsMore g.O.Outside.heard c.args.outside.now c.args.outside.now (unnamed devices number said))
+          (sym c.in-Err.is) (λ before h. h);
     }
 
 pub returns-then-is_known : goal.returns-then-is_known
@@ -75,6 +79,10 @@ returns-then-is_known g c =
           (known_line rested missed (is_known devices said) there devices known number said))
           c.obey.ensures.acts);
       later = c.obey.ensures.later;
+      heard = subst (λ said. HearsMore g.O.Outside.heard c.args.outside.now c.obey.new.outside (unnamed devices number said))
+          (sym (c.in-Ok-Host.is ∙ ap (λ said. Ok said) (rw c.in-Ok-Host.is at c.in-Ok-Host.field-0-is)))
+          (subst (λ b. HearsMore g.O.Outside.heard c.args.outside.now c.obey.new.outside (unless_named b number)) (sym there)
+          c.obey.ensures.heard);
     }
 
 pub returns-else-is_known : goal.returns-else-is_known
@@ -114,6 +122,10 @@ returns-else-is_known g c =
           (finds_none known does (tells_finds number kind.Device) steps told h))
           c.refuse_unknown.ensures.acts)));
       later = c.refuse_unknown.ensures.later;
+      heard = subst (λ said. HearsMore g.O.Outside.heard c.args.outside.now c.refuse_unknown.new.outside (unnamed devices number said))
+          (sym (c.in-Ok-Host.is ∙ ap (λ said. Ok said) (rw c.in-Ok-Host.is at c.in-Ok-Host.field-0-is)))
+          (subst (λ b. HearsMore g.O.Outside.heard c.args.outside.now c.refuse_unknown.new.outside (unless_named b number)) (sym there)
+          c.refuse_unknown.ensures.heard);
     }
 
 pub returns-in-Ok-State : goal.returns-in-Ok-State
@@ -147,4 +159,7 @@ returns-in-Ok-State g c =
           (acts_weaker sink.written sink.puts sink.faults result out told host after (IsStating missed) (Finds known known (IsStating missed))
           (finds_none known (IsStating missed) (stating_finds missed)) c.state.ensures.acts)));
       later = c.state.ensures.later;
+      heard = subst (λ said. HearsMore g.O.Outside.heard c.args.outside.now c.state.new.outside (unnamed devices number said))
+          (sym (c.in-Ok-State.is ∙ ap (λ said. Ok said) (rw c.in-Ok-State.is at c.in-Ok-State.field-0-is)))
+          c.state.ensures.heard;
     }

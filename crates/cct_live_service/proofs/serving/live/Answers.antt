@@ -6,11 +6,13 @@ use Rattle.cct_live_service.specs.Causes.{DiskServes, IsDiskFault, IsUnread, IsU
 use Rattle.cct_live_service.specs.AtDesk.{Both, FollowsTo}
 use Rattle.cct_live_service.specs.Doing.{IsDone, ServesLines, ends_by}
 use Rattle.cct_live_service.specs.Found.{FoundOn}
+use Rattle.cct_live_service.specs.Hears.{HearsMore}
 use Rattle.cct_live_service.specs.Known.{KnownAfter, MissedFrom}
 use Rattle.cct_live_service.specs.Linked.{UsesLink, watched}
 use Rattle.cct_live_service.specs.Lived.{Lived}
 use Rattle.cct_live_service.specs.Opening.{BegunOn, opening_of, opening_over}
 use Rattle.cct_live_service.specs.Parts.{Plays}
+use Rattle.cct_live_service.specs.Refused.{refusals}
 use Rattle.cct_live_service.proofs.Causing.{disk_not_unread, disk_not_unwritten}
 use Rattle.cct_live_service.proofs.Living.{lived_by, lived_suits}
 use Rattle.cct_live_service.proofs.Parts.{disk_then, serves_none}
@@ -35,6 +37,7 @@ returns g c =
     let ends = c.args.ends in
     let missed = g.O.Outside.misses c.args.outside.now in
     let missed_then = g.O.Outside.misses c.live_on-how.new.outside in
+    let heard = HearsMore g.O.Outside.heard c.args.outside.now c.live_on-how.new.outside in
     let unread = MissedFrom host (Rose missed missed_then) in
     let desk = c.args.desk.now in
     let left_desk = c.live_on-how.new.desk in
@@ -45,9 +48,9 @@ returns g c =
     let p = c.live_on-how.ensures.setup ∙ c.in-Ok.ensures.setup in
     record {
       lived = inl (subst (λ s. Lived sink.written sink.puts g.L.Link.gives link.sent link.failures disk.size disk.honest
-          disk.seen disk.may_leave disk.moment disk.left_since disk.cuts c.args.disk back s roll now desk left_desk missed missed_then ends left how c.args.out.now c.live_on-how.new.out line next) p
+          disk.seen disk.may_leave disk.moment disk.left_since disk.cuts c.args.disk back s roll now desk left_desk missed missed_then heard ends left how c.args.out.now c.live_on-how.new.out line next) p
           (lived_by sink.written sink.puts g.L.Link.gives link.sent link.failures c.args.disk back host last begun roll now
-          desk left_desk missed missed_then ends left line next
+          desk left_desk missed missed_then heard ends left line next
           (sym c.live_on-how.ensures.setup) (subst IsSoundSetup (sym p) c.requires.sound) c.into_disk.ensures
           (subst (λ s. BegunOn disk.seen c.args.disk s begun) (sym p) opened.on)
           (λ found on. subst (λ s. opening_of s begun ≡ opening_over s begun found) (sym p)
@@ -57,7 +60,7 @@ returns g c =
           (subst (λ s. FoundOn disk.honest disk.seen disk.may_leave c.args.disk s begun found) p on))
           how c.args.out.now c.live_on-how.new.out
           (subst (λ s. Plays sink.written sink.puts
-          linked (ServesLines (IsDone how) (KnownAfter host desk) unread s (opening_of s begun) roll.findings (ends_by how ends)) left how c.args.out.now c.live_on-how.new.out host last)
+          linked (ServesLines (IsDone how) (KnownAfter host desk) unread s (opening_of s begun) roll.findings (ends_by how ends)) (λ lines. heard (refusals s.devices lines)) left how c.args.out.now c.live_on-how.new.out host last)
           (sym c.live_on-how.ensures.setup) plays)));
       suits = lived_suits sink.written sink.puts {g = disk} c.args.disk back c.args.setup.now
           linked (ServesLines (IsDone how) (KnownAfter host desk) unread (setup_of host) opening roll.findings (ends_by how ends) plays.lines) how c.args.out.now c.live_on-how.new.out host last plays.lives;
@@ -77,7 +80,7 @@ returns-in-Err g c =
     let how = c.in-Err.ended.0 in
     let refuses = c.in-Err.ensures.refuses in
     record {
-      lived = inr (refuses.of_disk, refl, refl, refl, refl);
+      lived = inr (refuses.of_disk, refl, refl, refl, refl, λ before h. h);
       suits = refuses.suits;
       size = refuses.other;
       input = serves_none source.left source.faults c.args.input.now (IsUnread how) (disk_not_unread how refuses.of_disk);

@@ -74,6 +74,7 @@ returns-in-Ok g c =
                 (h.2, h.1.1) k) before.setup
                 (part_knowing sink.written sink.puts sink.faults first out between host mid plays_so plays.lives) acts.lives;
             says = plays.says;
+            heard = plays.heard;
           };
       input = before.input;
       sink = serves_then sink.written sink.faults out between told ⊥ ⊥ before.sink acts.sink ⊥ (λ fails. inr fails);
@@ -141,6 +142,7 @@ returns-in-Err g c =
                 (h.2, h.1.1) k) before.setup
                 (part_knowing sink.written sink.puts sink.faults first out between host mid plays_so plays.lives) acts.lives));
             says = said_ended how (source.left c.args.input.now) lines other plays.says;
+            heard = plays.heard;
           };
       input = serves_weaker source.left source.faults c.args.input.now c.open_and_play.new.input ⊥ (IsUnread how)
           (λ fails. other (unread_of_input how fails)) before.input;
@@ -175,6 +177,7 @@ returns-in_default g c =
             lives = played_to sink.written sink.puts uses c.open_and_play.result c.in_default.not-Done knows missed (setup_of host)
                 opening known ends lines c.args.out.now c.open_and_play.new.out host c.open_and_play.new.host plays.lives;
             says = plays.says;
+            heard = plays.heard;
           };
       input = before.input;
       sink = before.sink;

@@ -66,6 +66,7 @@ returns-in-Ok g c =
             ))
             plays.lives;
         says = plays.says;
+        heard = plays.heard;
       };
       input = c.play.ensures.input;
       sink = serves_then sink.written sink.faults out between c.play.new.out (IsErr went) (IsUnwritten c.play.result)
@@ -115,6 +116,7 @@ returns-in-Err g c =
               ),
         );
         says = said_broken Unwritten left left [] [] (λ is. is) (said_none left);
+        heard = λ before h. h;
       };
       input = serves_none source.left source.faults c.args.input.now ⊥ (λ fails. fails);
       sink = serves_weaker sink.written sink.faults out between (IsErr broke) (IsUnwritten Unwritten) (λ _. refl)
