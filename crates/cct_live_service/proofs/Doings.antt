@@ -14,6 +14,7 @@ use Rattle.cct_laws_live.specs.LiveStep as live
 use Rattle.cct_script.specs.declared.live.LiveLine.{LiveLine}
 use Rattle.cct_script.specs.declared.live.LiveLine.TheVariants as says
 use Rattle.cct_live_survey.specs.declared.finding.Finding.{Finding}
+use Rattle.cct_live_service.specs.declared.visit.Task.{Task}
 use Rattle.cct_live_service.specs.declared.attempts.TheConstants.{MOST_ATTEMPTS}
 use Rattle.cct_live_service.specs.declared.attempts.Until.{Until}
 use Rattle.cct_live_service.specs.declared.attempts.Until.TheVariants as until_of
@@ -24,10 +25,11 @@ use Rattle.cct_live_service.specs.declared.notice.Notice.{Notice}
 use Rattle.cct_live_service.specs.Watch.{IsOfWatch}
 use Rattle.cct_live_service.specs.Doing.{Does, DoesKnown, DoesLine, DoesLines, EndsAs, FrontOf, GoesOn, IsAttempt, IsAttemptWith, IsLastTry, IsStating, MakesAttempts, PlaysLines, ServesLines, ServesOn, Tells, TellsOne, Then, ThenBy, Times, is_known}
 use Rattle.cct_live_service.specs.Ends.{IsOfEnd, is_end, is_moved, is_unanswered, tells_end, tells_some}
-use Rattle.cct_live_service.specs.Known.{Knows, Rests}
+use Rattle.cct_live_service.specs.Known.{Knows, Rests, Tasks, tasks_by}
 use Rattle.cct_live_service.specs.Said.{Said}
 use Rattle.cct_live_service.specs.Told.{Told, as_told, attempt_told, entry, findings_in, notice, notices_told, told_unsent, unheard}
 use Rattle.cct_live_service.proofs.Parts.{front_whole}
+use Rattle.cct_live_service.proofs.Visiting.{poll_weaker}
 
 -- something once more
 pub times_more : (P : List LiveStep → List Told → Type 0) (n : ℕ) (s1 s2 : List LiveStep) (t1 t2 : List Told) →
@@ -291,10 +293,11 @@ tried until_of.Ended addr made steps told h = h.0
 tried until_of.Failed addr made steps told h = h
 
 -- what is done for a line, where more is known
-does_weaker : (A B : Bool → Type 0) → ((rest : Bool) → A rest → B rest) → (M N : Type 0) → (M → N) → (devices : List DeviceSetup)
+does_weaker : (A B : Bool → Type 0) → ((rest : Bool) → A rest → B rest) → (has more : Tasks) →
+    ((told : List Told) (addr : ℕ) (what : Task) → has told addr what → more told addr what) → (M N : Type 0) → (M → N) → (devices : List DeviceSetup)
     (findings : List Finding) (said : LiveLine) (steps : List LiveStep) (told : List Told) →
-    Does A M devices findings said steps told → Does B N devices findings said steps told
-does_weaker A B to M N miss devices findings says.Poll steps told h = record {
+    Does A has M devices findings said steps told → Does B more N devices findings said steps told
+does_weaker A B to has more tasks M N miss devices findings says.Poll steps told h = record {
   before = h.before;
   after = h.after;
   said = h.said;
@@ -302,43 +305,45 @@ does_weaker A B to M N miss devices findings says.Poll steps told h = record {
   steps_are = h.steps_are;
   told_is = h.told_is;
   first = serves_on h.first;
-  next = h.next;
+  next = poll_weaker (λ on. has (h.said ++ on)) (λ on. more (h.said ++ on)) (λ on. tasks (h.said ++ on)) h.after h.added h.next;
 }
   where
     serves_on : ServesOn A findings h.before h.said → ServesOn B findings h.before h.said
     serves_on (inl none) = inl (none.0, to true none.1)
     serves_on (inr some) = inr (some.0, to false some.1)
-does_weaker A B to M N miss devices findings (says.Command c) steps told h = h
-does_weaker A B to M N miss devices findings (says.Next addr) steps told h = h
-does_weaker A B to M N miss devices findings (says.Do addr) steps told h = h
-does_weaker A B to M N miss devices findings says.Balance steps told h = h
-does_weaker A B to M N miss devices findings says.Status steps told h = h
-does_weaker A B to M N miss devices findings (says.Order id) steps told h = (h.0, (h.1.0, h.1.1, λ unread. miss (h.1.2 unread)))
-does_weaker A B to M N miss devices findings (says.Stock addr count) steps told h = h
-does_weaker A B to M N miss devices findings (says.Change first amount) steps told h = h
-does_weaker A B to M N miss devices findings says.Serve steps told h = h
-does_weaker A B to M N miss devices findings says.End steps told h = h
+does_weaker A B to has more tasks M N miss devices findings (says.Command c) steps told h = h
+does_weaker A B to has more tasks M N miss devices findings (says.Next addr) steps told h = h
+does_weaker A B to has more tasks M N miss devices findings (says.Do addr) steps told h = h
+does_weaker A B to has more tasks M N miss devices findings says.Balance steps told h = h
+does_weaker A B to has more tasks M N miss devices findings says.Status steps told h = h
+does_weaker A B to has more tasks M N miss devices findings (says.Order id) steps told h = (h.0, (h.1.0, h.1.1, λ unread. miss (h.1.2 unread)))
+does_weaker A B to has more tasks M N miss devices findings (says.Stock addr count) steps told h = h
+does_weaker A B to has more tasks M N miss devices findings (says.Change first amount) steps told h = h
+does_weaker A B to has more tasks M N miss devices findings says.Serve steps told h = h
+does_weaker A B to has more tasks M N miss devices findings says.End steps told h = h
 
-known_weaker : (A B : Bool → Type 0) → ((rest : Bool) → A rest → B rest) → (M N : Type 0) → (M → N) → (known : Bool)
+known_weaker : (A B : Bool → Type 0) → ((rest : Bool) → A rest → B rest) → (has more : Tasks) →
+    ((told : List Told) (addr : ℕ) (what : Task) → has told addr what → more told addr what) → (M N : Type 0) → (M → N) → (known : Bool)
     (devices : List DeviceSetup) (findings : List Finding) (number : ℕ) (said : LiveLine) (steps : List LiveStep)
-    (told : List Told) → DoesKnown A M known devices findings number said steps told →
-    DoesKnown B N known devices findings number said steps told
-known_weaker A B to M N miss true devices findings number said steps told h = does_weaker A B to M N miss devices findings said steps told h
-known_weaker A B to M N miss false devices findings number said steps told h = h
+    (told : List Told) → DoesKnown A has M known devices findings number said steps told →
+    DoesKnown B more N known devices findings number said steps told
+known_weaker A B to has more tasks M N miss true devices findings number said steps told h = does_weaker A B to has more tasks M N miss devices findings said steps told h
+known_weaker A B to has more tasks M N miss false devices findings number said steps told h = h
 
 stating_weaker : (M N : Type 0) → (M → N) → (steps : List LiveStep) (told : List Told) → IsStating M steps told →
     IsStating N steps told
 stating_weaker M N miss steps told (none, inl known) = (none, inl known)
 stating_weaker M N miss steps told (none, inr unread) = (none, inr (unread.0, miss unread.1))
 
-pub line_weaker : (A B : Bool → Type 0) → ((rest : Bool) → A rest → B rest) → (M N : Type 0) → (M → N) →
+pub line_weaker : (A B : Bool → Type 0) → ((rest : Bool) → A rest → B rest) → (has more : Tasks) →
+    ((told : List Told) (addr : ℕ) (what : Task) → has told addr what → more told addr what) → (M N : Type 0) → (M → N) →
     (devices : List DeviceSetup) (findings : List Finding) (number : ℕ) (said : Said) (steps : List LiveStep)
-    (told : List Told) → DoesLine A M devices findings number said steps told →
-    DoesLine B N devices findings number said steps told
-line_weaker A B to M N miss devices findings number (Ok (input.Host said)) steps told h =
-    known_weaker A B to M N miss (is_known devices said) devices findings number said steps told h
-line_weaker A B to M N miss devices findings number (Ok input.State) steps told h = stating_weaker M N miss steps told h
-line_weaker A B to M N miss devices findings number (Err why) steps told h = h
+    (told : List Told) → DoesLine A has M devices findings number said steps told →
+    DoesLine B more N devices findings number said steps told
+line_weaker A B to has more tasks M N miss devices findings number (Ok (input.Host said)) steps told h =
+    known_weaker A B to has more tasks M N miss (is_known devices said) devices findings number said steps told h
+line_weaker A B to has more tasks M N miss devices findings number (Ok input.State) steps told h = stating_weaker M N miss steps told h
+line_weaker A B to has more tasks M N miss devices findings number (Err why) steps told h = h
 
 -- one thing, and then another one that goes by it
 pub then_by : (P : List LiveStep → List Told → Type 0) (Q : List Told → List LiveStep → List Told → Type 0)
@@ -367,25 +372,29 @@ lines_missed knows M N miss setup findings (said ∷ lines) steps told h = recor
   steps_are = h.steps_are;
   told_is = h.told_is;
   first = lines_missed knows M N miss setup findings lines h.before h.said h.first;
-  next = line_weaker (λ rest. knows h.said (Rests setup rest)) (λ rest. knows h.said (Rests setup rest)) (λ rest k. k) M N miss
+  next = line_weaker (λ rest. knows h.said (Rests setup rest)) (λ rest. knows h.said (Rests setup rest)) (λ rest k. k)
+      (λ more. tasks_by knows setup (h.said ++ more)) (λ more. tasks_by knows setup (h.said ++ more)) (λ more addr what k. k) M N miss
       setup.devices (findings ++ findings_in h.said) (suc (length lines)) said h.after h.added h.next;
 }
 
 -- lines, and the next one, by what is known and was found up to then
-pub line_then : (knows : Knows) (Rested : Bool → Type 0) (Before Line Missed : Type 0) → (Before → Missed) →
+pub line_then : (knows : Knows) (Rested : Bool → Type 0) (has : Tasks) (Before Line Missed : Type 0) → (Before → Missed) →
     (Line → Missed) → (setup : Setup) (findings now : List Finding) (lines : List Said) (number : ℕ) (said : Said) →
     suc (length lines) ≡ number → (s1 s2 : List LiveStep) (t1 t2 : List Told) →
-    ((rest : Bool) → Rested rest → knows t1 (Rests setup rest)) → DoesLines knows Before setup findings lines s1 t1 →
-    now ≡ findings ++ findings_in t1 → DoesLine Rested Line setup.devices now number said s2 t2 →
+    ((rest : Bool) → Rested rest → knows t1 (Rests setup rest)) →
+    ((more : List Told) (addr : ℕ) (what : Task) → has more addr what → tasks_by knows setup (t1 ++ more) addr what) →
+    DoesLines knows Before setup findings lines s1 t1 →
+    now ≡ findings ++ findings_in t1 → DoesLine Rested has Line setup.devices now number said s2 t2 →
     DoesLines knows Missed setup findings (said ∷ lines) (s1 ++ s2) (t1 ++ t2)
-line_then knows Rested Before Line Missed before miss setup findings now lines number said is s1 s2 t1 t2 to h found k =
+line_then knows Rested has Before Line Missed before miss setup findings now lines number said is s1 s2 t1 t2 to tasks h found k =
     then_by (DoesLines knows Missed setup findings lines)
-    (λ told. DoesLine (λ rest. knows told (Rests setup rest)) Missed setup.devices (findings ++ findings_in told)
-    (suc (length lines)) said) s1 s2 t1 t2 (lines_missed knows Before Missed before setup findings lines s1 t1 h)
-    (line_weaker Rested (λ rest. knows t1 (Rests setup rest)) to Line Missed miss setup.devices (findings ++ findings_in t1)
-    (suc (length lines)) said s2 t2
-    (subst (λ f. DoesLine Rested Line setup.devices f (suc (length lines)) said s2 t2) found
-    (subst (λ n. DoesLine Rested Line setup.devices now n said s2 t2) (sym is) k)))
+    (λ told. DoesLine (λ rest. knows told (Rests setup rest)) (λ more. tasks_by knows setup (told ++ more)) Missed setup.devices
+    (findings ++ findings_in told) (suc (length lines)) said) s1 s2 t1 t2
+    (lines_missed knows Before Missed before setup findings lines s1 t1 h)
+    (line_weaker Rested (λ rest. knows t1 (Rests setup rest)) to has (λ more. tasks_by knows setup (t1 ++ more)) tasks Line Missed
+    miss setup.devices (findings ++ findings_in t1) (suc (length lines)) said s2 t2
+    (subst (λ f. DoesLine Rested has Line setup.devices f (suc (length lines)) said s2 t2) found
+    (subst (λ n. DoesLine Rested has Line setup.devices now n said s2 t2) (sym is) k)))
 
 -- what is reported first, and then lines
 pub opening_then : (knows : Knows) (Missed : Type 0) (setup : Setup) (opening : Notice) (findings : List Finding) (lines : List Said)

@@ -12,12 +12,13 @@ use Rattle.cct_laws_live.specs.LiveStep as live
 use Rattle.cct_live_survey.specs.declared.finding.Finding.{Finding}
 use Rattle.cct_live_survey.specs.declared.withholding.Withheld.{Withheld}
 use Rattle.cct_live_survey.specs.Finding.{withheld_by}
+use Rattle.cct_live_service.specs.declared.visit.Task.{Task}
 use Rattle.cct_live_service.specs.declared.attempts.Until.{Until}
 use Rattle.cct_live_service.specs.declared.notice.Notice.{Notice}
 use Rattle.cct_live_service.specs.declared.notice.Notice.TheVariants as notice_of
 use Rattle.cct_live_service.specs.Doing.{Decides, DoesCommand, DoesLine, DoesLines, Finds, FrontOf, GoesOn, IsAsking, IsAttempt, IsFound, IsOrder, IsStatus, MakesAttempts, Tells, TellsOne, Times}
 use Rattle.cct_live_service.specs.Told.{Told, as_told, attempt_told, entry, falls_short, finding, findings_in, found_told, knows, last, notice, notices_told, operates, pays, refused, told_unsent, unheard, unsent}
-use Rattle.cct_live_service.specs.Known.{Knows, Rests}
+use Rattle.cct_live_service.specs.Known.{Knows, Rests, Tasks, tasks_by}
 use Rattle.cct_live_service.specs.Said.{Said}
 use Rattle.cct_live_service.proofs.Doings.{line_then, tried}
 
@@ -209,16 +210,17 @@ asking_rest a b added known is len steps told h =
     steps told h
 
 -- lines, and the next one, and what is found then
-pub lines_then : (learned : Knows) (Rested : Bool → Type 0) (Before Line Missed : Type 0) → (Before → Missed) →
+pub lines_then : (learned : Knows) (Rested : Bool → Type 0) (has : Tasks) (Before Line Missed : Type 0) → (Before → Missed) →
     (first between : Setup) → between ≡ first → (a b c : List Finding) (lines : List Said) (number : ℕ) (said : Said) →
     suc (length lines) ≡ number → (s1 s2 : List LiveStep) (t1 t2 : List Told) →
-    ((rest : Bool) → Rested rest → learned t1 (Rests first rest)) → (Line → Missed) →
-    Finds a b (DoesLines learned Before first a lines) s1 t1 →
-    Finds b c (DoesLine Rested Line between.devices b number said) s2 t2 →
+    ((rest : Bool) → Rested rest → learned t1 (Rests first rest)) →
+    ((more : List Told) (addr : ℕ) (what : Task) → has more addr what → tasks_by learned first (t1 ++ more) addr what) →
+    (Line → Missed) → Finds a b (DoesLines learned Before first a lines) s1 t1 →
+    Finds b c (DoesLine Rested has Line between.devices b number said) s2 t2 →
     Finds a c (DoesLines learned Missed first a (said ∷ lines)) (s1 ++ s2) (t1 ++ t2)
-lines_then learned Rested Before Line Missed before first between same a b c lines number said is s1 s2 t1 t2 to miss h k = (
-  line_then learned Rested Before Line Missed before miss first a b lines number said is s1 s2 t1 t2 to h.0 h.1
-      (subst (λ setup. DoesLine Rested Line setup.devices b number said s2 t2) same k.0),
+lines_then learned Rested has Before Line Missed before first between same a b c lines number said is s1 s2 t1 t2 to tasks miss h k = (
+  line_then learned Rested has Before Line Missed before miss first a b lines number said is s1 s2 t1 t2 to tasks h.0 h.1
+      (subst (λ setup. DoesLine Rested has Line setup.devices b number said s2 t2) same k.0),
   found_on a b c t1 t2 h.1 k.1,
 )
 

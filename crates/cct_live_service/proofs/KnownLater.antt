@@ -9,8 +9,9 @@ use Rattle.cct_host.specs.declared.host.Host.{Host}
 use Rattle.cct_host.specs.Host.{setup_of}
 use Rattle.cct_laws_live.specs.Life.{IsLife}
 use Rattle.cct_laws_live.specs.LiveStep.{LiveStep}
+use Rattle.cct_live_service.specs.declared.visit.Task.{Task}
 use Rattle.cct_live_service.specs.AtDesk.{AtDesk}
-use Rattle.cct_live_service.specs.Known.{IsKnown, KnownAfter, MissedFrom, Rested, Rests}
+use Rattle.cct_live_service.specs.Known.{HasTask, IsKnown, KnownAfter, MissedFrom, Rested, Rests, TaskAfter, TaskNow}
 use Rattle.cct_live_service.specs.Parts.{Acts, LifeGoes, Part}
 use Rattle.cct_live_service.specs.Since.{StandsSince}
 use Rattle.cct_live_service.specs.Told.{Told, news_of}
@@ -70,6 +71,27 @@ module _ {D : Type 0} {g : Ghosts D} where
   rested_later host mid same was desk steps told goes rest known =
       known_later host mid was desk steps told goes (Rests (setup_of host) rest)
       (subst (λ setup. IsKnown mid desk (Rests setup rest)) same known)
+
+  -- what is to be done at an address, at once
+  pub task_now : (host : Host D g) (desk : Desk) (addr : ℕ) (what : Task) → TaskNow host desk addr what →
+      TaskAfter host desk [] addr what
+  task_now host desk addr what = known_now host desk (HasTask (setup_of host) addr what)
+
+  -- later
+  pub task_later : (host mid : Host D g) → setup_of mid ≡ setup_of host → (was desk : Desk) (steps : List LiveStep)
+      (told : List Told) → GoesTo host mid was desk steps told → (addr : ℕ) (what : Task) → TaskNow mid desk addr what →
+      TaskAfter host was told addr what
+  task_later host mid same was desk steps told goes addr what known =
+      known_later host mid was desk steps told goes (HasTask (setup_of host) addr what)
+      (subst (λ setup. IsKnown mid desk (HasTask setup addr what)) same known)
+
+  -- and after more
+  pub task_then : (host mid : Host D g) → setup_of mid ≡ setup_of host → (was desk : Desk) (steps : List LiveStep)
+      (told : List Told) → GoesTo host mid was desk steps told → (more : List Told) (addr : ℕ) (what : Task) →
+      TaskAfter mid desk more addr what → TaskAfter host was (told ++ more) addr what
+  task_then host mid same was desk steps told goes more addr what known =
+      known_then host mid same was desk steps told more goes (HasTask (setup_of host) addr what)
+      (subst (λ setup. KnownAfter mid desk more (HasTask setup addr what)) same known)
 
   -- what was missed
   pub missed_later : (host mid : Host D g) → setup_of mid ≡ setup_of host → (was desk : Desk) (steps : List LiveStep)

@@ -7,6 +7,7 @@ pub mod Reporting
 pub mod Knows
 pub mod Orders
 pub mod Parts
+pub mod Visiting
 pub mod Polling
 pub mod Desks
 pub mod Linking

@@ -14,10 +14,13 @@ use Rattle.cct_live_survey.specs.declared.finding.Finding.{Finding}
 use Rattle.cct_live_service.specs.declared.attempts.Until.TheVariants as until_of
 use Rattle.cct_live_service.specs.declared.served.Served.{Served}
 use Rattle.cct_live_service.specs.declared.visit.TheConstants.{MOST_ROUNDS}
-use Rattle.cct_live_service.specs.Doing.{AreDistinct, AreVisits, BeginsRound, EndsAs, EndsRound, Finds, FrontOf, GoesOnTo, IsAsking, IsLastRound, IsMovedRound, IsNothing, IsPoll, IsRound, IsVisit, ReadsOut, TellsOne, Then, Times, VisitsLast, VisitsOthers, VisitsUnless}
+use Rattle.cct_live_service.specs.declared.visit.Task.{Task}
+use Rattle.cct_live_service.specs.declared.visit.Task.TheVariants as task
+use Rattle.cct_live_service.specs.Doing.{AreDistinct, AreVisits, BeginsRound, DoesTask, EndsAs, EndsRound, Finds, FrontOf, GoesOnTo, IsAsking, IsLastRound, IsMovedRound, IsNothing, IsPoll, IsRound, IsVisit, ReadsOut, TellsOne, Then, ThenBy, Times, VisitsLast, VisitsOthers, VisitsTurn, VisitsUnless}
 use Rattle.cct_live_service.specs.Ends.{is_moved, tells_moved}
+use Rattle.cct_live_service.specs.Known.{Tasks}
 use Rattle.cct_live_service.specs.Told.{Told, findings_in}
-use Rattle.cct_live_service.proofs.Doings.{moved_ends, nothing_after, then_one, times_more}
+use Rattle.cct_live_service.proofs.Doings.{moved_ends, nothing_after, then_by, then_one, times_more}
 use Rattle.cct_live_service.proofs.Found.{attempt_finds, attempts_find, finds_none, finds_weaker, found_then, one_finds, times_find}
 use Rattle.cct_live_service.proofs.Parts.{front_whole}
 
@@ -33,6 +36,21 @@ then_nothing P Q none steps told h = record {
   told_is = sym (append-nil told);
   first = h;
   next = none;
+}
+
+-- the same where the other one goes by it
+by_nothing : (P : List LiveStep → List Told → Type 0) (Q : List Told → List LiveStep → List Told → Type 0) →
+    ((said : List Told) → Q said [] []) → (steps : List LiveStep) (told : List Told) → P steps told →
+    ThenBy P Q steps told
+by_nothing P Q none steps told h = record {
+  before = steps;
+  after = [];
+  said = told;
+  added = [];
+  steps_are = sym (append-nil steps);
+  told_is = sym (append-nil told);
+  first = h;
+  next = none told;
 }
 
 -- nothing, and one thing after it
@@ -232,85 +250,109 @@ round_finds : (addr : ℕ) (Ends : List Told → Type 0) (steps : List LiveStep)
 round_finds addr Ends =
     then_find (BeginsRound addr) (λ s t. Goes addr s t × Ends t) (begins_find addr) (λ s t k. goes_find addr s t k.0)
 
-visit_finds : (addr : ℕ) (steps : List LiveStep) (told : List Told) → IsVisit addr steps told → findings_in told ≡ []
-visit_finds addr steps told (inl none) = ap findings_in none.1
-visit_finds addr steps told (inr (inl made)) = attempt_finds addr steps told made
-visit_finds addr steps told (inr (inr read)) =
-    then_find (Times read.0 (IsMovedRound addr)) (IsLastRound read.0 addr)
-    (times_find (IsMovedRound addr) (round_finds addr (λ told. tells_moved told ≡ true)) read.0)
-    (round_finds addr (λ told. (tells_moved told ≡ false) ⊎ (suc read.0 ≡ MOST_ROUNDS))) steps told read.2
+-- the same of one thing that goes by the other
+by_find : (P : List LiveStep → List Told → Type 0) (Q : List Told → List LiveStep → List Told → Type 0) →
+    ((steps : List LiveStep) (told : List Told) → P steps told → findings_in told ≡ []) →
+    ((said : List Told) (steps : List LiveStep) (told : List Told) → Q said steps told → findings_in told ≡ []) →
+    (steps : List LiveStep) (told : List Told) → ThenBy P Q steps told → findings_in told ≡ []
+by_find P Q one other steps told h =
+    ap findings_in h.told_is ∙ found_then h.said h.added
+    ∙ ap (λ fs. fs ++ findings_in h.added) (one h.before h.said h.first) ∙ other h.said h.after h.added h.next
 
-visits_find : (visited : List ℕ) (steps : List LiveStep) (told : List Told) → AreVisits visited steps told →
+task_finds : (what : Task) (addr : ℕ) (steps : List LiveStep) (told : List Told) → DoesTask what addr steps told →
     findings_in told ≡ []
-visits_find [] steps told h = ap findings_in h.1
-visits_find (addr ∷ visited) steps told h =
-    then_find (AreVisits visited) (IsVisit addr) (visits_find visited) (visit_finds addr) steps told h
+task_finds task.Nothing addr steps told h = ap findings_in h.1
+task_finds task.Attempt addr steps told h = attempt_finds addr steps told h
+task_finds task.ReadOut addr steps told h =
+    then_find (Times h.0 (IsMovedRound addr)) (IsLastRound h.0 addr)
+    (times_find (IsMovedRound addr) (round_finds addr (λ told. tells_moved told ≡ true)) h.0)
+    (round_finds addr (λ told. (tells_moved told ≡ false) ⊎ (suc h.0 ≡ MOST_ROUNDS))) steps told h.2
 
-pub last_finds : (turn : Option ℕ) (findings : List Finding) (steps : List LiveStep) (told : List Told) →
-    AreVisits (option_to_list turn) steps told → Finds findings findings (AreVisits (option_to_list turn)) steps told
-last_finds turn findings =
-    finds_none findings (AreVisits (option_to_list turn)) (visits_find (option_to_list turn))
+visit_finds : (Has : ℕ → Task → Type 0) (addr : ℕ) (steps : List LiveStep) (told : List Told) → IsVisit Has addr steps told →
+    findings_in told ≡ []
+visit_finds Has addr steps told h = task_finds h.0 addr steps told h.2
 
-pub others_find : (turn : Option ℕ) (findings : List Finding) (steps : List LiveStep) (told : List Told) →
-    VisitsOthers turn steps told → Finds findings findings (VisitsOthers turn) steps told
-others_find turn findings =
-    finds_none findings (VisitsOthers turn) (λ steps told h. visits_find h.0 steps told h.2)
+visits_find : (has : Tasks) (visited : List ℕ) (steps : List LiveStep) (told : List Told) →
+    AreVisits has visited steps told → findings_in told ≡ []
+visits_find has [] steps told h = ap findings_in h.1
+visits_find has (addr ∷ visited) steps told h =
+    by_find (AreVisits has visited) (λ said. IsVisit (has said) addr) (visits_find has visited)
+    (λ said. visit_finds (has said) addr) steps told h
+
+turn_finds : (Has : ℕ → Task → Type 0) (turn : Option ℕ) (steps : List LiveStep) (told : List Told) →
+    VisitsTurn Has turn steps told → findings_in told ≡ []
+turn_finds Has None steps told h = ap findings_in h.1
+turn_finds Has (Some addr) steps told (inl none) = ap findings_in none.1
+turn_finds Has (Some addr) steps told (inr visit) = visit_finds Has addr steps told visit
+
+pub last_finds : (Has : ℕ → Task → Type 0) (turn : Option ℕ) (findings : List Finding) (steps : List LiveStep)
+    (told : List Told) → VisitsTurn Has turn steps told → Finds findings findings (VisitsTurn Has turn) steps told
+last_finds Has turn findings = finds_none findings (VisitsTurn Has turn) (turn_finds Has turn)
+
+pub others_find : (has : Tasks) (turn : Option ℕ) (findings : List Finding) (steps : List LiveStep) (told : List Told) →
+    VisitsOthers has turn steps told → Finds findings findings (VisitsOthers has turn) steps told
+others_find has turn findings =
+    finds_none findings (VisitsOthers has turn) (λ steps told h. visits_find has h.0 steps told h.2)
 
 -- no visit
-pub none_at : (turn : Option ℕ) → AreVisits (option_to_list turn) [] []
-none_at None = (refl, refl)
-none_at (Some addr) = nothing_then IsNothing (IsVisit addr) (refl, refl) [] [] (inl (refl, refl))
+pub none_at : (Has : ℕ → Task → Type 0) (turn : Option ℕ) → VisitsTurn Has turn [] []
+none_at Has None = (refl, refl)
+none_at Has (Some addr) = inl (refl, refl)
 
--- one visit at the device that has its turn
-pub visit_at : (turn : Option ℕ) (addr : ℕ) → turn ≡ Some addr → (steps : List LiveStep) (told : List Told) →
-    IsVisit addr steps told → AreVisits (option_to_list turn) steps told
-visit_at turn addr is steps told h =
-    subst (λ at. AreVisits (option_to_list at) steps told) (sym is)
-    (nothing_then IsNothing (IsVisit addr) (refl, refl) steps told h)
+-- the device that has its turn is visited or not
+pub visit_at : (Has : ℕ → Task → Type 0) (turn : Option ℕ) (addr : ℕ) → turn ≡ Some addr → (steps : List LiveStep)
+    (told : List Told) → VisitsTurn Has (Some addr) steps told → VisitsTurn Has turn steps told
+visit_at Has turn addr is steps told h = subst (λ at. VisitsTurn Has at steps told) (sym is) h
 
 no_asking : IsAsking [] []
 no_asking = ([], (refl, refl))
 
-pub last_none : (turn : Option ℕ) → VisitsLast turn [] []
-last_none turn =
-    inl (nothing_then IsAsking (AreVisits (option_to_list turn)) no_asking [] [] (none_at turn))
+pub last_none : (has : Tasks) (turn : Option ℕ) → VisitsLast has turn [] []
+last_none has turn =
+    inl (then_by IsAsking (λ said. VisitsTurn (has said) turn) [] [] [] [] no_asking (none_at (has []) turn))
 
-pub asking_then : (turn : Option ℕ) (s1 s2 : List LiveStep) (t1 t2 : List Told) → IsAsking s1 t1 →
-    AreVisits (option_to_list turn) s2 t2 → VisitsLast turn (s1 ++ s2) (t1 ++ t2)
-asking_then turn s1 s2 t1 t2 h k = inl (then_one IsAsking (AreVisits (option_to_list turn)) s1 s2 t1 t2 h k)
+pub asking_then : (has : Tasks) (turn : Option ℕ) (s1 s2 : List LiveStep) (t1 t2 : List Told) → IsAsking s1 t1 →
+    VisitsTurn (has t1) turn s2 t2 → VisitsLast has turn (s1 ++ s2) (t1 ++ t2)
+asking_then has turn s1 s2 t1 t2 h k = inl (then_by IsAsking (λ said. VisitsTurn (has said) turn) s1 s2 t1 t2 h k)
 
-pub asking_alone : (turn : Option ℕ) (a b : List Finding) (steps : List LiveStep) (told : List Told) →
-    Finds a b IsAsking steps told → Finds a b (VisitsLast turn) steps told
-asking_alone turn a b =
-    finds_weaker a b IsAsking (VisitsLast turn)
-    (λ steps told h. inl (then_nothing IsAsking (AreVisits (option_to_list turn)) (none_at turn) steps told h))
+pub asking_alone : (has : Tasks) (turn : Option ℕ) (a b : List Finding) (steps : List LiveStep) (told : List Told) →
+    Finds a b IsAsking steps told → Finds a b (VisitsLast has turn) steps told
+asking_alone has turn a b =
+    finds_weaker a b IsAsking (VisitsLast has turn)
+    (λ steps told h. inl (by_nothing IsAsking (λ said. VisitsTurn (has said) turn) (λ said. none_at (has said) turn) steps told h))
 
-pub visit_then_asking : (turn : Option ℕ) (s1 s2 : List LiveStep) (t1 t2 : List Told) →
-    AreVisits (option_to_list turn) s1 t1 → IsAsking s2 t2 → VisitsLast turn (s1 ++ s2) (t1 ++ t2)
-visit_then_asking turn s1 s2 t1 t2 h k = inr (then_one (AreVisits (option_to_list turn)) IsAsking s1 s2 t1 t2 h k)
+pub visit_then_asking : (has : Tasks) (turn : Option ℕ) (s1 s2 : List LiveStep) (t1 t2 : List Told) →
+    VisitsTurn (has []) turn s1 t1 → IsAsking s2 t2 → VisitsLast has turn (s1 ++ s2) (t1 ++ t2)
+visit_then_asking has turn s1 s2 t1 t2 h k = inr (then_one (VisitsTurn (has []) turn) IsAsking s1 s2 t1 t2 h k)
 
-pub visit_alone : (turn : Option ℕ) (findings : List Finding) (steps : List LiveStep) (told : List Told) →
-    AreVisits (option_to_list turn) steps told → Finds findings findings (VisitsLast turn) steps told
-visit_alone turn findings steps told h =
-    finds_weaker findings findings (AreVisits (option_to_list turn)) (VisitsLast turn)
-    (λ s t k. inr (then_nothing (AreVisits (option_to_list turn)) IsAsking no_asking s t k)) steps told
-    (last_finds turn findings steps told h)
+pub visit_alone : (has : Tasks) (turn : Option ℕ) (findings : List Finding) (steps : List LiveStep) (told : List Told) →
+    VisitsTurn (has []) turn steps told → Finds findings findings (VisitsLast has turn) steps told
+visit_alone has turn findings steps told h =
+    finds_weaker findings findings (VisitsTurn (has []) turn) (VisitsLast has turn)
+    (λ s t k. inr (then_nothing (VisitsTurn (has []) turn) IsAsking no_asking s t k)) steps told
+    (last_finds (has []) turn findings steps told h)
 
-pub polls : (turn : Option ℕ) (s1 s2 : List LiveStep) (t1 t2 : List Told) → VisitsOthers turn s1 t1 →
-    VisitsLast turn s2 t2 → IsPoll (s1 ++ s2) (t1 ++ t2)
-polls turn s1 s2 t1 t2 h k = (turn, then_one (VisitsOthers turn) (VisitsLast turn) s1 s2 t1 t2 h k)
+pub polls : (has : Tasks) (turn : Option ℕ) (s1 s2 : List LiveStep) (t1 t2 : List Told) → VisitsOthers has turn s1 t1 →
+    VisitsLast (λ more. has (t1 ++ more)) turn s2 t2 → IsPoll has (s1 ++ s2) (t1 ++ t2)
+polls has turn s1 s2 t1 t2 h k =
+    (turn, then_by (VisitsOthers has turn) (λ said. VisitsLast (λ more. has (said ++ more)) turn) s1 s2 t1 t2 h k)
 
-pub polls_alone : (turn : Option ℕ) (findings : List Finding) (steps : List LiveStep) (told : List Told) →
-    VisitsOthers turn steps told → Finds findings findings IsPoll steps told
-polls_alone turn findings steps told h =
-    finds_weaker findings findings (VisitsOthers turn) IsPoll
-    (λ s t k. (turn, then_nothing (VisitsOthers turn) (VisitsLast turn) (last_none turn) s t k)) steps told
-    (others_find turn findings steps told h)
+pub polls_alone : (has : Tasks) (turn : Option ℕ) (findings : List Finding) (steps : List LiveStep) (told : List Told) →
+    VisitsOthers has turn steps told → Finds findings findings (IsPoll has) steps told
+polls_alone has turn findings steps told h =
+    finds_weaker findings findings (VisitsOthers has turn) (IsPoll has)
+    (λ s t k. (
+      turn,
+      by_nothing (VisitsOthers has turn) (λ said. VisitsLast (λ more. has (said ++ more)) turn)
+          (λ said. last_none (λ more. has (said ++ more)) turn) s t k,
+    )) steps told
+    (others_find has turn findings steps told h)
 
-pub poll_none : IsPoll [] []
-poll_none = (
+pub poll_none : (has : Tasks) → IsPoll has [] []
+poll_none has = (
   None,
-  nothing_then (VisitsOthers None) (VisitsLast None) ([], tt, (refl, refl)) [] [] (last_none None),
+  then_by (VisitsOthers has None) (λ said. VisitsLast (λ more. has (said ++ more)) None) [] [] [] [] ([], tt, (refl, refl))
+      (last_none has None),
 )
 
 -- An address comes before the next ones, in rising order from the first one.
@@ -318,15 +360,15 @@ abbrev pub IsBehind : ℕ → ℕ → ℕ → Type 0
 IsBehind first step addr = (other : ℕ) → step ≤ other → other < 256 → (first + other) % 256 ≢ addr
 
 -- What is visited of the first so many addresses from the first one, without the one that has its turn later.
-pub record SoFar (first step : ℕ) (turn : Option ℕ) (steps : List LiveStep) (told : List Told) : Type 0 where
+pub record SoFar (has : Tasks) (first step : ℕ) (turn : Option ℕ) (steps : List LiveStep) (told : List Told) : Type 0 where
   visited : List ℕ
   distinct : AreDistinct visited
   others : All (λ addr. turn ≢ Some addr) visited
   behind : All (IsBehind first step) visited
-  visits : AreVisits visited steps told
+  visits : AreVisits has visited steps told
 
-pub far_none : (first : ℕ) (turn : Option ℕ) → SoFar first 0 turn [] []
-far_none first turn = record {
+pub far_none : (has : Tasks) (first : ℕ) (turn : Option ℕ) → SoFar has first 0 turn [] []
+far_none has first turn = record {
   visited = [];
   distinct = tt;
   others = All-nil (λ addr. turn ≢ Some addr);
@@ -343,17 +385,17 @@ behind_next first step addr h other le = h other (less step other le)
 behind_this : (first step : ℕ) → step < 256 → IsBehind first (step + 1) ((first + step) % 256)
 behind_this first step few other le less same = omega (arith, few, le, less, same)
 
-pub far_more : (first step addr : ℕ) → step < 256 → addr ≡ (first + step) % 256 → (turn : Option ℕ)
-    (s1 s2 : List LiveStep) (t1 t2 : List Told) → SoFar first step turn s1 t1 → VisitsUnless turn addr s2 t2 →
-    SoFar first (step + 1) turn (s1 ++ s2) (t1 ++ t2)
-far_more first step addr few is turn s1 s2 t1 t2 h (inl none) = record {
+pub far_more : (has : Tasks) (first step addr : ℕ) → step < 256 → addr ≡ (first + step) % 256 → (turn : Option ℕ)
+    (s1 s2 : List LiveStep) (t1 t2 : List Told) → SoFar has first step turn s1 t1 →
+    VisitsUnless (has t1) turn addr s2 t2 → SoFar has first (step + 1) turn (s1 ++ s2) (t1 ++ t2)
+far_more has first step addr few is turn s1 s2 t1 t2 h (inl none) = record {
   visited = h.visited;
   distinct = h.distinct;
   others = h.others;
   behind = All-weaker (IsBehind first step) (IsBehind first (step + 1)) (behind_next first step) h.visited h.behind;
-  visits = nothing_after (AreVisits h.visited) s1 s2 t1 t2 none.0 none.1 h.visits;
+  visits = nothing_after (AreVisits has h.visited) s1 s2 t1 t2 none.0 none.1 h.visits;
 }
-far_more first step addr few is turn s1 s2 t1 t2 h (inr (visit, other)) = record {
+far_more has first step addr few is turn s1 s2 t1 t2 h (inr (visit, other)) = record {
   visited = addr ∷ h.visited;
   distinct = (
     All-weaker (IsBehind first step) (λ before. addr ≢ before)
@@ -364,15 +406,15 @@ far_more first step addr few is turn s1 s2 t1 t2 h (inr (visit, other)) = record
   behind = All-cons (IsBehind first (step + 1)) addr h.visited
       (subst (IsBehind first (step + 1)) (sym is) (behind_this first step few))
       (All-weaker (IsBehind first step) (IsBehind first (step + 1)) (behind_next first step) h.visited h.behind);
-  visits = then_one (AreVisits h.visited) (IsVisit addr) s1 s2 t1 t2 h.visits visit;
+  visits = then_by (AreVisits has h.visited) (λ said. IsVisit (has said) addr) s1 s2 t1 t2 h.visits visit;
 }
   where
     itself : (n : ℕ) → n ≤ n
     itself n = omega arith
 
-pub far_all : (first step : ℕ) (turn : Option ℕ) (steps : List LiveStep) (told : List Told) →
-    SoFar first step turn steps told → VisitsOthers turn steps told
-far_all first step turn steps told h = (h.visited, distinct turn h.others, h.visits)
+pub far_all : (has : Tasks) (first step : ℕ) (turn : Option ℕ) (steps : List LiveStep) (told : List Told) →
+    SoFar has first step turn steps told → VisitsOthers has turn steps told
+far_all has first step turn steps told h = (h.visited, distinct turn h.others, h.visits)
   where
     distinct : (at : Option ℕ) → All (λ addr. at ≢ Some addr) h.visited → AreDistinct (option_to_list at ++ h.visited)
     distinct None others = h.distinct

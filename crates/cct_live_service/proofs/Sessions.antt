@@ -24,7 +24,8 @@ use Rattle.cct_script.specs.declared.live.LiveLine.{LiveLine}
 use Rattle.cct_live_survey.specs.declared.finding.Finding.{Finding}
 use Rattle.cct_live_survey.specs.declared.withholding.Withheld.{Withheld}
 use Rattle.cct_live_survey.specs.Finding.{withheld_by}
-use Rattle.cct_live_service.specs.Doing.{DecidesPay, Does, DoesKnown, DoesPay, Finds, FrontOf, IsAsking, IsPoll, IsServing, ServesOn, Tells, TellsStep, Then}
+use Rattle.cct_live_service.specs.Known.{Tasks}
+use Rattle.cct_live_service.specs.Doing.{DecidesPay, Does, DoesKnown, DoesPay, Finds, FrontOf, IsAsking, IsPoll, IsServing, ServesOn, Tells, TellsStep, ThenBy}
 use Rattle.cct_live_service.specs.Session.{HasAsked}
 use Rattle.cct_live_service.specs.Told.{Told, falls_short, findings_in, operates, pay_of, pays, refused, refused_for, taken, withheld_for}
 use Rattle.cct_live_service.proofs.Polling.{poll_none}
@@ -147,9 +148,10 @@ pays_broken a b p steps told h =
     record { undone = k.0; untold = k.1; whole = pays_then a b p steps k.0 told k.1 h k.2 }
 
 -- a session that goes on or not, and then the rest of a poll
-pub served_then : (Rested : Bool → Type 0) (known : List Finding) (s1 s2 : List LiveStep) (t1 t2 : List Told) →
-    ServesOn Rested known s1 t1 → IsPoll s2 t2 → Then (ServesOn Rested known) IsPoll (s1 ++ s2) (t1 ++ t2)
-served_then Rested known s1 s2 t1 t2 h k = record {
+pub served_then : (Rested : Bool → Type 0) (has : Tasks) (known : List Finding) (s1 s2 : List LiveStep) (t1 t2 : List Told) →
+    ServesOn Rested known s1 t1 → IsPoll (λ more. has (t1 ++ more)) s2 t2 →
+    ThenBy (ServesOn Rested known) (λ said. IsPoll (λ more. has (said ++ more))) (s1 ++ s2) (t1 ++ t2)
+served_then Rested has known s1 s2 t1 t2 h k = record {
   before = s1;
   after = s2;
   said = t1;
@@ -160,11 +162,12 @@ served_then Rested known s1 s2 t1 t2 h k = record {
   next = k;
 }
 
-pub served_alone : (Rested : Bool → Type 0) (known now : List Finding) (steps : List LiveStep) (told : List Told) →
+pub served_alone : (Rested : Bool → Type 0) (has : Tasks) (known now : List Finding) (steps : List LiveStep) (told : List Told) →
     Finds known now (ServesOn Rested known) steps told →
-    Finds known now (Then (ServesOn Rested known) IsPoll) steps told
-served_alone Rested known now =
-    finds_weaker known now (ServesOn Rested known) (Then (ServesOn Rested known) IsPoll) (λ steps told h. record {
+    Finds known now (ThenBy (ServesOn Rested known) (λ said. IsPoll (λ more. has (said ++ more)))) steps told
+served_alone Rested has known now =
+    finds_weaker known now (ServesOn Rested known)
+    (ThenBy (ServesOn Rested known) (λ said. IsPoll (λ more. has (said ++ more)))) (λ steps told h. record {
       before = steps;
       after = [];
       said = told;
@@ -172,19 +175,19 @@ served_alone Rested known now =
       steps_are = sym (append-nil steps);
       told_is = sym (append-nil told);
       first = h;
-      next = poll_none;
+      next = poll_none (λ more. has (told ++ more));
     })
 
 -- what a line says is done for it, where it names what is there, and else it is refused
-pub known_line : (Rested : Bool → Type 0) (Missed : Type 0) (known : Bool) → known ≡ true → (devices : List DeviceSetup)
+pub known_line : (Rested : Bool → Type 0) (has : Tasks) (Missed : Type 0) (known : Bool) → known ≡ true → (devices : List DeviceSetup)
     (findings : List Finding) (number : ℕ) (said : LiveLine) (steps : List LiveStep) (told : List Told) →
-    Does Rested Missed devices findings said steps told → DoesKnown Rested Missed known devices findings number said steps told
-known_line Rested Missed true is devices findings number said steps told h = h
-known_line Rested Missed false is devices findings number said steps told h = cc is
+    Does Rested has Missed devices findings said steps told → DoesKnown Rested has Missed known devices findings number said steps told
+known_line Rested has Missed true is devices findings number said steps told h = h
+known_line Rested has Missed false is devices findings number said steps told h = cc is
 
-pub unknown_line : (Rested : Bool → Type 0) (Missed : Type 0) (known : Bool) → known ≡ false → (devices : List DeviceSetup)
+pub unknown_line : (Rested : Bool → Type 0) (has : Tasks) (Missed : Type 0) (known : Bool) → known ≡ false → (devices : List DeviceSetup)
     (findings : List Finding) (number : ℕ)
     (said : LiveLine) (steps : List LiveStep) (told : List Told) → Tells (refused number kind.Device) steps told →
-    DoesKnown Rested Missed known devices findings number said steps told
-unknown_line Rested Missed true is devices findings number said steps told h = cc is
-unknown_line Rested Missed false is devices findings number said steps told h = h
+    DoesKnown Rested has Missed known devices findings number said steps told
+unknown_line Rested has Missed true is devices findings number said steps told h = cc is
+unknown_line Rested has Missed false is devices findings number said steps told h = h

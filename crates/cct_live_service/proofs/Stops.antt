@@ -25,7 +25,7 @@ use Rattle.cct_live_service.specs.declared.stopping.AtEnd.TheVariants as at_end
 use Rattle.cct_live_service.specs.Doing.{DoesLines, FrontOf, GivesStop, GoesOnTo, IsDone, MakesAttempts, PlaysLines, ServesLines, StopsAt, StopsBy, StopsRunning, StopsStill, StopsUpTo, TellsOne, ends_by}
 use Rattle.cct_live_service.specs.Watch.{IsOfWatch}
 use Rattle.cct_live_service.specs.Ends.{tells_unanswered}
-use Rattle.cct_live_service.specs.Known.{HasJob, IsKnown, KnownAfter, Knows, Rests, Runs}
+use Rattle.cct_live_service.specs.Known.{HasJob, HasTask, IsKnown, KnownAfter, Knows, Rests, Runs, tasks_by}
 use Rattle.cct_live_service.specs.Parts.{LivesOn, LivesTo}
 use Rattle.cct_live_service.specs.Said.{IsOfInput, Said}
 use Rattle.cct_live_service.specs.Told.{Told, attempt_told, entry, findings_in, notices_told}
@@ -193,7 +193,9 @@ module _ (A B : Knows) (to : (told : List Told) (Fact : Desk → List Entry → 
     told_is = h.told_is;
     first = lines_weaker M N miss findings lines h.before h.said h.first;
     next = line_weaker (λ rest. A h.said (Rests setup rest)) (λ rest. B h.said (Rests setup rest))
-        (λ rest known. to h.said (Rests setup rest) known) M N miss setup.devices (findings ++ findings_in h.said)
+        (λ rest known. to h.said (Rests setup rest) known)
+        (λ more. tasks_by A setup (h.said ++ more)) (λ more. tasks_by B setup (h.said ++ more))
+        (λ more addr what. to (h.said ++ more) (HasTask setup addr what)) M N miss setup.devices (findings ++ findings_in h.said)
         (suc (length lines)) said h.after h.added h.next;
   }
 

@@ -23,6 +23,8 @@ use Rattle.cct_laws_live.specs.LiveStep.{LiveStep}
 use Rattle.cct_laws_live.specs.LiveStep as live
 use Rattle.cct_live_service.specs.declared.attempts.TheConstants.{MOST_ATTEMPTS}
 use Rattle.cct_live_service.specs.declared.visit.TheConstants.{MOST_ROUNDS}
+use Rattle.cct_live_service.specs.declared.visit.Task.{Task}
+use Rattle.cct_live_service.specs.declared.visit.Task.TheVariants as task
 use Rattle.cct_live_service.specs.declared.attempts.Until.{Until}
 use Rattle.cct_live_service.specs.declared.attempts.Until.TheVariants as until_of
 use Rattle.cct_live_service.specs.declared.input.InputLine.TheVariants as input
@@ -36,7 +38,7 @@ use Rattle.cct_live_service.specs.declared.stopping.AtEnd.{AtEnd}
 use Rattle.cct_live_service.specs.declared.stopping.AtEnd.TheVariants as at_end
 use Rattle.cct_live_service.specs.Ends.{IsOfEnd, tells_end, tells_moved, tells_some}
 use Rattle.cct_live_service.specs.Ends.{tells_unanswered}
-use Rattle.cct_live_service.specs.Known.{HasJob, Knows, Rests, Runs}
+use Rattle.cct_live_service.specs.Known.{HasJob, Knows, Rests, Runs, Tasks, tasks_by}
 use Rattle.cct_live_service.specs.Said.{Said}
 use Rattle.cct_live_service.specs.Status.{AreOfStatus}
 use Rattle.cct_live_service.specs.Told.{Told, attempt_told, entry, falls_short, findings_in}
@@ -159,15 +161,20 @@ ReadsOut addr steps told =
     (before : ℕ) × (suc before ≤ MOST_ROUNDS)
     × Then (Times before (IsMovedRound addr)) (IsLastRound before addr) steps told
 
--- What a poll does at a device: nothing, or one attempt, or it reads out an acceptor.
-abbrev pub IsVisit : ℕ → List LiveStep → List Told → Type 0
-IsVisit addr steps told =
-    IsNothing steps told ⊎ (IsAttempt addr steps told ⊎ ReadsOut addr steps told)
+-- What is done at a device where this is to be done.
+abbrev pub DoesTask : Task → ℕ → List LiveStep → List Told → Type 0
+DoesTask task.Nothing addr = IsNothing
+DoesTask task.Attempt addr = IsAttempt addr
+DoesTask task.ReadOut addr = ReadsOut addr
+
+-- What a poll does at a device: what is to be done there.
+abbrev pub IsVisit : (ℕ → Task → Type 0) → ℕ → List LiveStep → List Told → Type 0
+IsVisit Has addr steps told = (what : Task) × Has addr what × DoesTask what addr steps told
 
 -- It does so at devices of these addresses, newest first, one after another.
-abbrev pub AreVisits : List ℕ → List LiveStep → List Told → Type 0
-AreVisits [] = IsNothing
-AreVisits (addr ∷ before) = Then (AreVisits before) (IsVisit addr)
+abbrev pub AreVisits : Tasks → List ℕ → List LiveStep → List Told → Type 0
+AreVisits has [] = IsNothing
+AreVisits has (addr ∷ before) = ThenBy (AreVisits has before) (λ said. IsVisit (has said) addr)
 
 -- These findings are reported.
 abbrev pub IsFound : List Finding → List LiveStep → List Told → Type 0
@@ -183,25 +190,33 @@ AreDistinct [] = ⊤
 AreDistinct (addr ∷ before) = All (λ other. addr ≢ other) before × AreDistinct before
 
 -- The devices at other addresses than this one are visited, none of them twice.
-abbrev pub VisitsOthers : Option ℕ → List LiveStep → List Told → Type 0
-VisitsOthers turn steps told =
+abbrev pub VisitsOthers : Tasks → Option ℕ → List LiveStep → List Told → Type 0
+VisitsOthers has turn steps told =
     (visited : List ℕ) × AreDistinct (option_to_list turn ++ visited)
-    × AreVisits visited steps told
+    × AreVisits has visited steps told
 
--- At last this one is, if there is one; before or after it findings are reported.
-abbrev pub VisitsLast : Option ℕ → List LiveStep → List Told → Type 0
-VisitsLast turn steps told =
-    Then IsAsking (AreVisits (option_to_list turn)) steps told
-    ⊎ Then (AreVisits (option_to_list turn)) IsAsking steps told
+-- This one is visited, if there is one, or it isn't.
+abbrev pub VisitsTurn : (ℕ → Task → Type 0) → Option ℕ → List LiveStep → List Told → Type 0
+VisitsTurn Has None = IsNothing
+VisitsTurn Has (Some addr) = λ steps told. IsNothing steps told ⊎ IsVisit Has addr steps told
+
+-- At last it may be; before or after it findings are reported.
+abbrev pub VisitsLast : Tasks → Option ℕ → List LiveStep → List Told → Type 0
+VisitsLast has turn steps told =
+    ThenBy IsAsking (λ said. VisitsTurn (has said) turn) steps told
+    ⊎ Then (VisitsTurn (has []) turn) IsAsking steps told
 
 -- What a poll does: it visits devices, none of them twice, and reports findings.
-abbrev pub IsPoll : List LiveStep → List Told → Type 0
-IsPoll steps told = (turn : Option ℕ) × Then (VisitsOthers turn) (VisitsLast turn) steps told
+abbrev pub IsPoll : Tasks → List LiveStep → List Told → Type 0
+IsPoll has steps told =
+    (turn : Option ℕ)
+    × ThenBy (VisitsOthers has turn) (λ said. VisitsLast (λ more. has (said ++ more)) turn) steps
+    told
 
 -- The device at an address is visited or not; and it isn't, where it has its turn later.
-abbrev pub VisitsUnless : Option ℕ → ℕ → List LiveStep → List Told → Type 0
-VisitsUnless turn addr steps told =
-    IsNothing steps told ⊎ (IsVisit addr steps told × (turn ≢ Some addr))
+abbrev pub VisitsUnless : (ℕ → Task → Type 0) → Option ℕ → ℕ → List LiveStep → List Told → Type 0
+VisitsUnless Has turn addr steps told =
+    IsNothing steps told ⊎ (IsVisit Has addr steps told × (turn ≢ Some addr))
 
 -- A command is given to the host, which answers; or it is reported that it isn't, and why.
 abbrev pub DoesCommand : Command → Option Withheld → List LiveStep → List Told → Type 0
@@ -260,23 +275,24 @@ abbrev pub ServesOn : (Bool → Type 0) → List Finding → List LiveStep → L
 ServesOn Rested findings steps told =
     (IsNothing steps told × Rested true) ⊎ (IsServing findings steps told × Rested false)
 
--- What is done for what a line says, by whether the session has nothing to do, by what is missed
--- where the journal can't be read, by the devices of the setup, and by what was found before. One
--- that ends the service is none of these.
-abbrev pub Does : (Bool → Type 0) → Type 0 → List DeviceSetup → List Finding → LiveLine →
+-- What is done for what a line says, by whether the session has nothing to do, by what is to be
+-- done at each device, by what is missed where the journal can't be read, by the devices of the
+-- setup, and by what was found before. One that ends the service is none of these.
+abbrev pub Does : (Bool → Type 0) → Tasks → Type 0 → List DeviceSetup → List Finding → LiveLine →
     List LiveStep → List Told → Type 0
-Does Rested Missed devices findings (says.Command c) = Decides findings c
-Does Rested Missed devices findings (says.Next addr) = IsAttempt addr
-Does Rested Missed devices findings (says.Do addr) = MakesAttempts until_of.Ended addr
-Does Rested Missed devices findings says.Poll = Then (ServesOn Rested findings) IsPoll
-Does Rested Missed devices findings says.Balance = TellsOne live.balance
-Does Rested Missed devices findings says.Status = IsStatus devices
-Does Rested Missed devices findings (says.Order id) = IsOrder Missed id
-Does Rested Missed devices findings (says.Stock addr count) = TellsStep (step.Stock addr count)
-Does Rested Missed devices findings (says.Change first amount) =
+Does Rested has Missed devices findings (says.Command c) = Decides findings c
+Does Rested has Missed devices findings (says.Next addr) = IsAttempt addr
+Does Rested has Missed devices findings (says.Do addr) = MakesAttempts until_of.Ended addr
+Does Rested has Missed devices findings says.Poll =
+    ThenBy (ServesOn Rested findings) (λ said. IsPoll (λ more. has (said ++ more)))
+Does Rested has Missed devices findings says.Balance = TellsOne live.balance
+Does Rested has Missed devices findings says.Status = IsStatus devices
+Does Rested has Missed devices findings (says.Order id) = IsOrder Missed id
+Does Rested has Missed devices findings (says.Stock addr count) = TellsStep (step.Stock addr count)
+Does Rested has Missed devices findings (says.Change first amount) =
     TellsStep (step.Change first amount)
-Does Rested Missed devices findings says.Serve = IsServing findings
-Does Rested Missed devices findings says.End = λ steps told. ⊥
+Does Rested has Missed devices findings says.Serve = IsServing findings
+Does Rested has Missed devices findings says.End = λ steps told. ⊥
 
 -- A line names what is there: a stock is one of a hopper.
 abbrev pub is_known : List DeviceSetup → LiveLine → Bool
@@ -284,20 +300,20 @@ is_known devices (says.Stock addr count) = hopper_there (device_at devices addr)
 is_known devices said = true
 
 -- What is done for a line that names what is there, or not: what it says, or it is refused.
-abbrev pub DoesKnown : (Bool → Type 0) → Type 0 → Bool → List DeviceSetup → List Finding → ℕ →
+abbrev pub DoesKnown : (Bool → Type 0) → Tasks → Type 0 → Bool → List DeviceSetup → List Finding → ℕ →
     LiveLine → List LiveStep → List Told
     → Type 0
-DoesKnown Rested Missed true devices findings number said = Does Rested Missed devices findings said
-DoesKnown Rested Missed false devices findings number said = Tells (refused number kind.Device)
+DoesKnown Rested has Missed true devices findings number said = Does Rested has Missed devices findings said
+DoesKnown Rested has Missed false devices findings number said = Tells (refused number kind.Device)
 
 -- What is done for the line of a number, by what is missed where the journal can't be read, and by
 -- the devices of the setup; or it is reported that it says nothing.
-abbrev pub DoesLine : (Bool → Type 0) → Type 0 → List DeviceSetup → List Finding → ℕ → Said →
+abbrev pub DoesLine : (Bool → Type 0) → Tasks → Type 0 → List DeviceSetup → List Finding → ℕ → Said →
     List LiveStep → List Told → Type 0
-DoesLine Rested Missed devices findings number (Ok (input.Host said)) =
-    DoesKnown Rested Missed (is_known devices said) devices findings number said
-DoesLine Rested Missed devices findings number (Ok input.State) = IsStating Missed
-DoesLine Rested Missed devices findings number (Err why) = Tells (refused number why)
+DoesLine Rested has Missed devices findings number (Ok (input.Host said)) =
+    DoesKnown Rested has Missed (is_known devices said) devices findings number said
+DoesLine Rested has Missed devices findings number (Ok input.State) = IsStating Missed
+DoesLine Rested has Missed devices findings number (Err why) = Tells (refused number why)
 
 -- What was done for lines, newest first: each one is done after those before it, by what is known
 -- and was found up to then.
@@ -306,8 +322,8 @@ abbrev pub DoesLines : Knows → Type 0 → Setup → List Finding → List Said
 DoesLines knows Missed setup findings [] = IsNothing
 DoesLines knows Missed setup findings (said ∷ before) =
     ThenBy (DoesLines knows Missed setup findings before)
-    (λ told. DoesLine (λ rest. knows told (Rests setup rest)) Missed setup.devices
-    (findings ++ findings_in told)
+    (λ told. DoesLine (λ rest. knows told (Rests setup rest))
+    (λ more. tasks_by knows setup (told ++ more)) Missed setup.devices (findings ++ findings_in told)
     (suc (length before)) said)
 
 -- It was done so, and what is found then is what was found before and what was reported.

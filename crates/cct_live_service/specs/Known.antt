@@ -1,6 +1,8 @@
 -- What is known at a point of a service: what holds of the desk and of all that happened.
 use Rattle.std.specs.Prelude.{◌≡◌, ℕ, Bool, true, false, List, ◌++◌, Option, Some, None, is_some}
 use Rattle.cct_model.specs.terms.device.Setup.{Setup}
+use Rattle.cct_model.specs.lines.command.Command.{Command}
+use Rattle.cct_model.specs.lines.command.Command.TheVariants as command
 use Rattle.cct_model.specs.lines.record.Record.{Record}
 use Rattle.cct_model.specs.lines.entry.Entry.{Entry}
 use Rattle.cct_model.specs.declared.change.Due.{Due}
@@ -16,6 +18,8 @@ use Rattle.cct_host.specs.Host.{Keeps, setup_of}
 use Rattle.cct_host.specs.Standing.{command_at, epoch_at}
 use Rattle.cct_laws_live.specs.Life.{IsLife}
 use Rattle.cct_laws_live.specs.LiveStep.{LiveStep}
+use Rattle.cct_live_service.specs.declared.visit.Task.{Task}
+use Rattle.cct_live_service.specs.declared.visit.Task.TheVariants as task
 use Rattle.cct_live_service.specs.AtDesk.{AtDesk}
 use Rattle.cct_live_service.specs.Opening.{is_running}
 use Rattle.cct_live_service.specs.Since.{Given, StandsSince}
@@ -58,6 +62,26 @@ HasJob setup addr has desk past = is_some (command_at setup past addr) ≡ has
 abbrev pub Runs : Setup → ℕ → Bool → Desk → List Entry → Type 0
 Runs setup addr runs desk past = is_running (epoch_at setup past addr) ≡ runs
 
+-- What is to be done at an address, by the command of its job and by whether an epoch runs there.
+abbrev pub task_of : Option Command → Bool → Task
+task_of None true = task.ReadOut
+task_of None false = task.Nothing
+task_of (Some (command.Round addr)) runs = task.ReadOut
+task_of (Some c) runs = task.Attempt
+
+-- This is to be done at an address.
+abbrev pub HasTask : Setup → ℕ → Task → Desk → List Entry → Type 0
+HasTask setup addr what desk past =
+    task_of (command_at setup past addr) (is_running (epoch_at setup past addr)) ≡ what
+
+-- After what was reported, what is to be done at each address.
+abbrev pub Tasks : Type 1
+Tasks = List Told → ℕ → Task → Type 0
+
+-- Of what is known.
+abbrev pub tasks_by : Knows → Setup → Tasks
+tasks_by knows setup told addr what = knows told (HasTask setup addr what)
+
 module _ {D : Type 0} {g : Ghosts D} where
   -- It holds of a desk and of all that this host has.
   abbrev pub IsKnown : Host D g → Desk → (Desk → List Entry → Type 0) → Type 0
@@ -74,6 +98,14 @@ module _ {D : Type 0} {g : Ghosts D} where
   -- Whether the session has nothing to do.
   abbrev pub Rested : Host D g → Desk → Bool → Type 0
   Rested host desk rest = IsKnown host desk (Rests (setup_of host) rest)
+
+  -- What is to be done at an address.
+  abbrev pub TaskNow : Host D g → Desk → ℕ → Task → Type 0
+  TaskNow host desk addr what = IsKnown host desk (HasTask (setup_of host) addr what)
+
+  -- And after what was reported since.
+  abbrev pub TaskAfter : Host D g → Desk → Tasks
+  TaskAfter host desk = tasks_by (KnownAfter host desk) (setup_of host)
 
   -- This was missed since a host was so, whatever was given and found, if the disk that was given
   -- is trusted.

@@ -16,7 +16,7 @@ ghost use Rattle.cct_live_service.specs.Causes.{IsUnwritten};
 ghost use Rattle.cct_live_service.specs.Doing.{Decides, Does, DoesLine, DoesLines, Finds};
 ghost use Rattle.cct_live_service.specs.Doing.{IsAttempt, MakesAttempts, Tells, is_known};
 ghost use Rattle.cct_live_service.specs.Hears.{HearsMore};
-ghost use Rattle.cct_live_service.specs.Known.{KnownAfter, MissedFrom, Rested};
+ghost use Rattle.cct_live_service.specs.Known.{KnownAfter, MissedFrom, Rested, TaskAfter};
 ghost use Rattle.cct_live_service.specs.Linked.{AreQuiet, Exchanges, UsesLink, watched};
 ghost use Rattle.cct_live_service.specs.Parts.{Acts, Plays};
 ghost use Rattle.cct_live_service.specs.Refused.{next_unread, refusals, unnamed, unread};
@@ -184,7 +184,7 @@ fn take_line<K: Sink, D: Disk + Drop, L: CountedLink, O: Beside<D>>(
         (Both (UsesLink L.gives L.sent L.failures (setup_of host.old).devices roll.old roll.new
         (watched link.old page.old) (watched link.new page.new))
         (FollowsDesk result desk.old desk.new))
-        (Finds roll.old.findings roll.new.findings (DoesLine (Rested host.old desk.old)
+        (Finds roll.old.findings roll.new.findings (DoesLine (Rested host.old desk.old) (TaskAfter host.old desk.old)
         (MissedFrom host.old (Rose (O.misses outside.old) (O.misses outside.new))) (setup_of host.old).devices roll.old.findings number line.now))
         result out.old out.new host.old host.new }
     ensures later { O.misses outside.old ≤ O.misses outside.new }
@@ -287,7 +287,7 @@ fn obey<K: Sink, D: Disk + Drop, L: CountedLink, O: Beside<D>>(
         (Both (UsesLink L.gives L.sent L.failures (setup_of host.old).devices roll.old roll.new
         (watched link.old page.old) (watched link.new page.new))
         (FollowsDesk result desk.old desk.new))
-        (Finds roll.old.findings roll.new.findings (Does (Rested host.old desk.old)
+        (Finds roll.old.findings roll.new.findings (Does (Rested host.old desk.old) (TaskAfter host.old desk.old)
         (MissedFrom host.old (Rose (O.misses outside.old) (O.misses outside.new))) (setup_of host.old).devices roll.old.findings said.now))
         result out.old out.new host.old host.new }
     ensures later { O.misses outside.old ≤ O.misses outside.new }

@@ -1,11 +1,10 @@
 //! The line `poll`: all that is to be done for a while.
-ghost use Rattle.std.specs.Prelude.{◌≡◌, ◌≢◌, ◌<◌, ◌+◌, ◌%◌, Some, false, true};
-ghost use Rattle.std.specs.Option.{option_to_list};
+ghost use Rattle.std.specs.Prelude.{◌≡◌, ◌≢◌, ◌<◌, ◌+◌, ◌%◌, ◌++◌, Some, false, true};
 ghost use Rattle.cct_host.specs.Host.{has_failed, setup_of};
 ghost use Rattle.cct_live_service.specs.AtDesk.{Both, FollowsDesk, IsApart};
-ghost use Rattle.cct_live_service.specs.Doing.{AreVisits, Finds, IsAsking, IsPoll, IsVisit};
-ghost use Rattle.cct_live_service.specs.Doing.{ServesOn, Then, VisitsLast, VisitsOthers, VisitsUnless};
-ghost use Rattle.cct_live_service.specs.Known.{Rested};
+ghost use Rattle.cct_live_service.specs.Doing.{Finds, IsAsking, IsPoll, ServesOn, ThenBy};
+ghost use Rattle.cct_live_service.specs.Doing.{VisitsLast, VisitsOthers, VisitsTurn, VisitsUnless};
+ghost use Rattle.cct_live_service.specs.Known.{Rested, TaskAfter, TaskNow};
 ghost use Rattle.cct_live_service.specs.Linked.{Exchanges, UsesLink, watched};
 ghost use Rattle.cct_live_service.specs.Parts.{Acts};
 
@@ -41,7 +40,8 @@ pub(crate) fn poll<K: Sink, D: Disk, L: CountedLink>(
         (Both (UsesLink L.gives L.sent L.failures (setup_of host.old).devices roll.old roll.new
         (watched link.old page.old) (watched link.new page.new))
         (FollowsDesk result desk.old desk.new))
-        (Finds roll.old.findings roll.new.findings (Then (ServesOn (Rested host.old desk.old) roll.old.findings) IsPoll))
+        (Finds roll.old.findings roll.new.findings (ThenBy (ServesOn (Rested host.old desk.old) roll.old.findings)
+        (λ said. IsPoll (λ more. TaskAfter host.old desk.old (said ++ more)))))
         result out.old out.new host.old host.new }
 {
     page.rests.begin_poll();
@@ -65,7 +65,7 @@ fn visit_all<K: Sink, D: Disk, L: CountedLink>(
         (Both (UsesLink L.gives L.sent L.failures (setup_of host.old).devices roll.old roll.new
         (watched link.old page.old) (watched link.new page.new))
         (FollowsDesk result desk.old desk.new))
-        (Finds roll.old.findings roll.new.findings IsPoll) result out.old out.new host.old host.new }
+        (Finds roll.old.findings roll.new.findings (IsPoll (TaskAfter host.old desk.old))) result out.old out.new host.old host.new }
 {
     let turn = next_doubtful(host, page);
     match visit_sound(host, turn, desk, link, out, page) {
@@ -89,7 +89,7 @@ fn visit_sound<K: Sink, D: Disk, L: CountedLink>(
     ensures acts { Acts K.written K.puts K.faults (Both (Exchanges L.gives L.sent L.failures (setup_of host.old).devices
         (watched link.old page.old) (watched link.new page.new))
         (FollowsDesk result desk.old desk.new))
-        (VisitsOthers turn) result out.old out.new host.old host.new }
+        (VisitsOthers (TaskAfter host.old desk.old) turn) result out.old out.new host.old host.new }
 {
     let first = page.rests.first();
     for step in 0..ADDRESSES {
@@ -121,7 +121,7 @@ fn visit_if_sound<K: Sink, D: Disk, L: CountedLink>(
     ensures acts { Acts K.written K.puts K.faults (Both (Exchanges L.gives L.sent L.failures (setup_of host.old).devices
         (watched link.old page.old) (watched link.new page.new))
         (FollowsDesk result desk.old desk.new))
-        (VisitsUnless turn addr) result out.old out.new host.old host.new }
+        (VisitsUnless (TaskNow host.old desk.old) turn addr) result out.old out.new host.old host.new }
 {
     if is_now(page, addr, turn) {
         visit(host, addr, desk, link, out, page)
@@ -165,7 +165,7 @@ fn visit_last<K: Sink, D: Disk, L: CountedLink>(
         (Both (UsesLink L.gives L.sent L.failures (setup_of host.old).devices roll.old roll.new
         (watched link.old page.old) (watched link.new page.new))
         (FollowsDesk result desk.old desk.new))
-        (Finds roll.old.findings roll.new.findings (VisitsLast turn)) result out.old out.new host.old host.new }
+        (Finds roll.old.findings roll.new.findings (VisitsLast (TaskAfter host.old desk.old) turn)) result out.old out.new host.old host.new }
 {
     if page.rests.asks_first() {
         ask_then_visit(host, turn, roll, desk, link, out, page)
@@ -190,7 +190,7 @@ fn ask_then_visit<K: Sink, D: Disk, L: CountedLink>(
         (Both (UsesLink L.gives L.sent L.failures (setup_of host.old).devices roll.old roll.new
         (watched link.old page.old) (watched link.new page.new))
         (FollowsDesk result desk.old desk.new))
-        (Finds roll.old.findings roll.new.findings (VisitsLast turn)) result out.old out.new host.old host.new }
+        (Finds roll.old.findings roll.new.findings (VisitsLast (TaskAfter host.old desk.old) turn)) result out.old out.new host.old host.new }
 {
     match ask_if_unspent(host, roll, link, out, page) {
         Ok(()) => visit_doubtful(host, turn, desk, link, out, page),
@@ -214,7 +214,7 @@ fn visit_then_ask<K: Sink, D: Disk, L: CountedLink>(
         (Both (UsesLink L.gives L.sent L.failures (setup_of host.old).devices roll.old roll.new
         (watched link.old page.old) (watched link.new page.new))
         (FollowsDesk result desk.old desk.new))
-        (Finds roll.old.findings roll.new.findings (VisitsLast turn)) result out.old out.new host.old host.new }
+        (Finds roll.old.findings roll.new.findings (VisitsLast (TaskAfter host.old desk.old) turn)) result out.old out.new host.old host.new }
 {
     match visit_doubtful(host, turn, desk, link, out, page) {
         Ok(()) => ask_if_unspent(host, roll, link, out, page),
@@ -257,7 +257,7 @@ fn visit_doubtful<K: Sink, D: Disk, L: CountedLink>(
     ensures acts { Acts K.written K.puts K.faults (Both (Exchanges L.gives L.sent L.failures (setup_of host.old).devices
         (watched link.old page.old) (watched link.new page.new))
         (FollowsDesk result desk.old desk.new))
-        (AreVisits (option_to_list turn)) result out.old out.new host.old host.new }
+        (VisitsTurn (TaskNow host.old desk.old) turn) result out.old out.new host.old host.new }
 {
     match turn {
         Some(addr) => visit_if_unspent(host, addr, desk, link, out, page),
@@ -278,7 +278,7 @@ fn visit_if_unspent<K: Sink, D: Disk, L: CountedLink>(
     ensures acts { Acts K.written K.puts K.faults (Both (Exchanges L.gives L.sent L.failures (setup_of host.old).devices
         (watched link.old page.old) (watched link.new page.new))
         (FollowsDesk result desk.old desk.new))
-        (IsVisit addr) result out.old out.new host.old host.new }
+        (VisitsTurn (TaskNow host.old desk.old) (Some addr)) result out.old out.new host.old host.new }
 {
     if page.rests.is_spent() {
         return Ok(());

@@ -1,11 +1,15 @@
 //! What a poll does at one device.
-ghost use Rattle.std.specs.Prelude.{◌≡◌, false};
+ghost use Rattle.std.specs.Prelude.{◌≡◌, List, false};
 ghost use Rattle.std.specs.List.{list_any};
-ghost use Rattle.cct_host.specs.Host.{has_failed, setup_of};
+ghost use Rattle.cct_host.specs.Host.{Keeps, has_failed, setup_of};
+ghost use Rattle.cct_host.specs.Standing.{command_at, epoch_at};
+ghost use Rattle.cct_model.specs.lines.entry.Entry.{Entry};
 ghost use Rattle.cct_live_service.specs.AtDesk.{Both, FollowsDesk, IsApart};
 ghost use Rattle.cct_live_service.specs.Doing.{BeginsRound, EndsRound, IsVisit, ReadsOut};
 ghost use Rattle.cct_live_service.specs.Ends.{is_moved};
+ghost use Rattle.cct_live_service.specs.Known.{TaskNow, task_of};
 ghost use Rattle.cct_live_service.specs.Linked.{AreQuiet, Exchanges, watched};
+ghost use Rattle.cct_live_service.specs.Opening.{is_running};
 ghost use Rattle.cct_live_service.specs.Parts.{Acts};
 
 use crate::attempts::{Until, attempt, go_on};
@@ -36,12 +40,23 @@ enum Task {
 }
 
 /// What is to be done at an address.
-fn task_at<D: Disk>(host: &Host<'_, D>, addr: u8) -> Task {
-    match host.command_at(addr) {
+fn task_at<D: Disk>(host: &Host<'_, D>, addr: u8) -> Task
+    ensures { (past : List Entry) → Keeps host.now past
+        → task_of (command_at (setup_of host.now) past addr) (is_running (epoch_at (setup_of host.now) past addr))
+        ≡ result }
+{
+    task_of(host.command_at(addr), runs(host.epoch_at(addr)))
+}
+
+/// What is to be done at an address, by the command of its job and by whether an epoch runs there.
+fn task_of(job: Option<Command>, is_running: bool) -> Task
+    ensures { result ≡ task_of job is_running }
+{
+    match job {
         Some(Command::Round { .. }) => Task::ReadOut,
         Some(_) => Task::Attempt,
         None => {
-            if runs(host.epoch_at(addr)) {
+            if is_running {
                 Task::ReadOut
             } else {
                 Task::Nothing
@@ -69,7 +84,7 @@ pub(crate) fn visit<K: Sink, D: Disk, L: CountedLink>(
     ensures acts { Acts K.written K.puts K.faults (Both (Exchanges L.gives L.sent L.failures (setup_of host.old).devices
         (watched link.old page.old) (watched link.new page.new))
         (FollowsDesk result desk.old desk.new))
-        (IsVisit addr) result out.old out.new host.old host.new }
+        (IsVisit (TaskNow host.old desk.old) addr) result out.old out.new host.old host.new }
 {
     match task_at(host, addr) {
         Task::Nothing => Ok(()),

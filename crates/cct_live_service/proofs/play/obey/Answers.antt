@@ -6,7 +6,7 @@ use Rattle.cct_laws_live.specs.LiveStep as live
 use Rattle.cct_live_service.specs.declared.attempts.Until.TheVariants as until_of
 use Rattle.cct_live_service.specs.AtDesk.{Both, FollowsDesk, IsApart}
 use Rattle.cct_live_service.specs.Doing.{Decides, Does, Finds, IsAttempt, IsOrder, IsStatus, MakesAttempts, TellsOne, TellsStep}
-use Rattle.cct_live_service.specs.Known.{MissedFrom, Rested}
+use Rattle.cct_live_service.specs.Known.{MissedFrom, Rested, TaskAfter}
 use Rattle.cct_live_service.specs.Linked.{UsesLink, watched}
 use Rattle.cct_live_service.specs.Parts.{Acts}
 use Rattle.cct_live_service.specs.Said.{IsSayable}
@@ -40,7 +40,7 @@ returns-in-Next g c =
     let out1 = c.next.new.out in
     let after = c.next.new.host in
     record {
-      acts = subst (λ said. Acts sink.written sink.puts sink.faults uses (Finds known known (Does (Rested host c.args.desk.now) missed devices known said)) result out out1
+      acts = subst (λ said. Acts sink.written sink.puts sink.faults uses (Finds known known (Does (Rested host c.args.desk.now) (TaskAfter host c.args.desk.now) missed devices known said)) result out out1
           host after) (sym c.in-Next.is)
           (roll_told sink.written sink.puts sink.faults g.L.Link.gives link.sent link.failures devices roll line (watched c.next.new.link c.next.new.page)
           desk c.next.new.desk result out out1 host after (Finds known known does)
@@ -70,7 +70,7 @@ returns-in-Do g c =
     let out1 = c.do_job.new.out in
     let after = c.do_job.new.host in
     record {
-      acts = subst (λ said. Acts sink.written sink.puts sink.faults uses (Finds known known (Does (Rested host c.args.desk.now) missed devices known said)) result out out1
+      acts = subst (λ said. Acts sink.written sink.puts sink.faults uses (Finds known known (Does (Rested host c.args.desk.now) (TaskAfter host c.args.desk.now) missed devices known said)) result out out1
           host after) (sym c.in-Do.is)
           (roll_told sink.written sink.puts sink.faults g.L.Link.gives link.sent link.failures devices roll line (watched c.do_job.new.link c.do_job.new.page)
           desk c.do_job.new.desk result out out1 host after (Finds known known does)
@@ -100,7 +100,7 @@ returns-in-Balance g c =
     let out1 = c.balance.new.out in
     let after = c.balance.new.host in
     record {
-      acts = subst (λ said. Acts sink.written sink.puts sink.faults uses (Finds known known (Does (Rested host c.args.desk.now) missed devices known said)) result out out1
+      acts = subst (λ said. Acts sink.written sink.puts sink.faults uses (Finds known known (Does (Rested host c.args.desk.now) (TaskAfter host c.args.desk.now) missed devices known said)) result out out1
           host after) (sym c.in-Balance.is)
           (roll_quiet sink.written sink.puts sink.faults g.L.Link.gives link.sent link.failures devices roll
           c.args.link.now c.args.page.now c.balance.new.page c.balance.ensures.watch follows result out out1 host after (Finds known known does)
@@ -131,7 +131,7 @@ returns-in-Status g c =
     let out1 = c.status.new.out in
     let after = c.status.new.host in
     record {
-      acts = subst (λ said. Acts sink.written sink.puts sink.faults uses (Finds known known (Does (Rested host c.args.desk.now) missed devices known said)) result out out1
+      acts = subst (λ said. Acts sink.written sink.puts sink.faults uses (Finds known known (Does (Rested host c.args.desk.now) (TaskAfter host c.args.desk.now) missed devices known said)) result out out1
           host after) (sym c.in-Status.is)
           (roll_apart sink.written sink.puts sink.faults g.L.Link.gives link.sent link.failures devices roll roll line
           (watched c.args.link.now c.status.new.page) desk result out out1 host after (Finds known known does)
@@ -164,7 +164,7 @@ returns-in-Order g c =
     let out1 = c.order.new.out in
     let after = c.order.new.host in
     record {
-      acts = subst (λ said. Acts sink.written sink.puts sink.faults uses (Finds known known (Does (Rested host c.args.desk.now) missed devices known said)) result out out1
+      acts = subst (λ said. Acts sink.written sink.puts sink.faults uses (Finds known known (Does (Rested host c.args.desk.now) (TaskAfter host c.args.desk.now) missed devices known said)) result out out1
           host after) (sym c.in-Order.is)
           (roll_quiet sink.written sink.puts sink.faults g.L.Link.gives link.sent link.failures devices roll
           c.args.link.now c.args.page.now c.order.new.page c.order.ensures.watch follows result out out1 host after (Finds known known does)
@@ -196,7 +196,7 @@ returns-in-Stock g c =
     let out1 = c.count_stock.new.out in
     let after = c.count_stock.new.host in
     record {
-      acts = subst (λ said. Acts sink.written sink.puts sink.faults uses (Finds known known (Does (Rested host c.args.desk.now) missed devices known said)) result out out1
+      acts = subst (λ said. Acts sink.written sink.puts sink.faults uses (Finds known known (Does (Rested host c.args.desk.now) (TaskAfter host c.args.desk.now) missed devices known said)) result out out1
           host after) (sym c.in-Stock.is)
           (roll_quiet sink.written sink.puts sink.faults g.L.Link.gives link.sent link.failures devices roll
           c.args.link.now c.args.page.now c.count_stock.new.page c.count_stock.ensures.watch follows result out out1 host after (Finds known known does)
@@ -227,7 +227,7 @@ returns-in-Change g c =
     let out1 = c.begin_session.new.out in
     let after = c.begin_session.new.host in
     record {
-      acts = subst (λ said. Acts sink.written sink.puts sink.faults uses (Finds known known (Does (Rested host c.args.desk.now) missed devices known said)) result out out1
+      acts = subst (λ said. Acts sink.written sink.puts sink.faults uses (Finds known known (Does (Rested host c.args.desk.now) (TaskAfter host c.args.desk.now) missed devices known said)) result out out1
           host after) (sym c.in-Change.is)
           (roll_quiet sink.written sink.puts sink.faults g.L.Link.gives link.sent link.failures devices roll
           c.args.link.now c.args.page.now c.begin_session.new.page c.begin_session.ensures.watch follows result out out1 host after (Finds known known does)
@@ -262,7 +262,7 @@ returns-in-Command g c =
     let uses = Both (UsesLink g.L.Link.gives link.sent link.failures devices roll c.decide.new.roll line (watched c.decide.new.link c.decide.new.page))
     (FollowsDesk result desk desk) in
     record {
-      acts = subst (λ said. Acts sink.written sink.puts sink.faults uses (Finds known now (Does (Rested host c.args.desk.now) missed devices known said)) result out out1
+      acts = subst (λ said. Acts sink.written sink.puts sink.faults uses (Finds known now (Does (Rested host c.args.desk.now) (TaskAfter host c.args.desk.now) missed devices known said)) result out out1
           host after) (sym c.in-Command.is)
           (roll_apart sink.written sink.puts sink.faults g.L.Link.gives link.sent link.failures devices roll c.decide.new.roll line
           (watched c.decide.new.link c.decide.new.page) desk result out out1 host after (Finds known now (Decides known c.in-Command.command))

@@ -6,7 +6,7 @@ use Rattle.cct_script.specs.Endless.{held_of}
 use Rattle.cct_live_service.specs.Causes.{IsDiskFault, IsUnread, IsUnwritten}
 use Rattle.cct_live_service.specs.AtDesk.{Both, FollowsDesk}
 use Rattle.cct_live_service.specs.Doing.{DoesLine, DoesLines, Finds}
-use Rattle.cct_live_service.specs.Known.{KnownAfter, MissedFrom, Rested}
+use Rattle.cct_live_service.specs.Known.{KnownAfter, MissedFrom, Rested, TaskAfter}
 use Rattle.cct_live_service.specs.Linked.{UsesLink, watched}
 use Rattle.cct_live_service.specs.Refused.{refusals}
 use Rattle.cct_live_service.specs.Said.{HasSaid}
@@ -14,7 +14,7 @@ use Rattle.cct_live_service.proofs.Causing.{input_no_fault, input_not_unwritten,
 use Rattle.cct_live_service.proofs.Doings.{lines_missed, next_number}
 use Rattle.cct_live_service.proofs.Found.{lines_none, lines_then}
 use Rattle.cct_live_service.proofs.Hearing.{hears_line}
-use Rattle.cct_live_service.proofs.KnownLater.{Knowing, acts_knowing, later_then, missed_later, missed_weaker, rested_later}
+use Rattle.cct_live_service.proofs.KnownLater.{Knowing, acts_knowing, later_then, missed_later, missed_weaker, rested_later, task_then}
 use Rattle.cct_live_service.proofs.Linking.{lives_end, lives_stop, roll_desk, roll_none}
 use Rattle.cct_live_service.proofs.Parts.{acts_weaker, breaks, disk_weaker, lives_weaker, serves_none, serves_then, serves_weaker}
 use Rattle.cct_live_service.proofs.Saying.{said_all, said_broken, said_many, said_more, said_none}
@@ -119,6 +119,7 @@ returns-in-Err-take_line g c =
     (watched c.take_line.new.link c.take_line.new.page) in
     let follows = Both uses (FollowsDesk (Err how) was desk) in
     let rested = Rested c.loop-number.host c.loop-number.desk in
+    let tasks = TaskAfter c.loop-number.host c.loop-number.desk in
     let start = misses c.args.outside.now in
     let from = misses c.loop-number.outside in
     let between = misses c.next_line.new.outside in
@@ -138,10 +139,11 @@ returns-in-Err-take_line g c =
     c.take_line.new.roll (watched c.args.link.now c.args.page.now) (watched c.loop-number.link c.loop-number.page) (watched c.take_line.new.link c.take_line.new.page) was c.loop-number.desk desk (Err how) out
     c.loop-number.out c.take_line.new.out host
     c.loop-number.host c.take_line.new.host (Knowing did went host c.loop-number.host)
-    (Finds known now (DoesLine rested line_missed (setup_of c.loop-number.host).devices known number line)) (Finds first now does)
-    (λ s1 s2 t1 t2 h k. lines_then knows rested was_missed line_missed missed missed_before setup (setup_of c.loop-number.host) before.acts.setup first known now
+    (Finds known now (DoesLine rested tasks line_missed (setup_of c.loop-number.host).devices known number line)) (Finds first now does)
+    (λ s1 s2 t1 t2 h k. lines_then knows rested tasks was_missed line_missed missed missed_before setup (setup_of c.loop-number.host) before.acts.setup first known now
     before.said number line before.count s1 s2 t1 t2
     (rested_later host c.loop-number.host before.acts.setup was c.loop-number.desk s1 t1 (h.2, h.1.1))
+    (task_then host c.loop-number.host before.acts.setup was c.loop-number.desk s1 t1 (h.2, h.1.1))
     (missed_later host c.loop-number.host before.acts.setup was c.loop-number.desk s1 t1 (h.2, h.1.1) (Rose between last)
     (Rose start last) missed_then) h.0 k)
     (acts_knowing sink.written sink.puts sink.faults went out c.loop-number.out host c.loop-number.host did before.acts)
@@ -185,6 +187,7 @@ loop-number-preserved g c =
     let number = c.loop-number.number in
     let left = source.left c.args.input.now in
     let rested = Rested c.loop-number.host c.loop-number.desk in
+    let tasks = TaskAfter c.loop-number.host c.loop-number.desk in
     let start = misses c.args.outside.now in
     let from = misses c.loop-number.outside in
     let between = misses c.next_line.new.outside in
@@ -206,11 +209,13 @@ loop-number-preserved g c =
           c.take_line.new.roll (watched c.args.link.now c.args.page.now) (watched c.loop-number.link c.loop-number.page) (watched c.take_line.new.link c.take_line.new.page) c.args.desk.now c.loop-number.desk
           c.take_line.new.desk (Ok tt) c.args.out.now c.loop-number.out c.take_line.new.out
           c.args.host.now c.loop-number.host c.take_line.new.host (Knowing did went c.args.host.now c.loop-number.host)
-          (Finds known now (DoesLine rested line_missed (setup_of c.loop-number.host).devices known number line))
+          (Finds known now (DoesLine rested tasks line_missed (setup_of c.loop-number.host).devices known number line))
           (Finds first now (DoesLines knows missed setup first (line ∷ before.said)))
-          (λ s1 s2 t1 t2 h k. lines_then knows rested was_missed line_missed missed missed_before setup (setup_of c.loop-number.host) before.acts.setup first known now
+          (λ s1 s2 t1 t2 h k. lines_then knows rested tasks was_missed line_missed missed missed_before setup (setup_of c.loop-number.host) before.acts.setup first known now
           before.said number line before.count s1 s2 t1 t2
           (rested_later c.args.host.now c.loop-number.host before.acts.setup c.args.desk.now c.loop-number.desk s1 t1
+          (h.2, h.1.1))
+          (task_then c.args.host.now c.loop-number.host before.acts.setup c.args.desk.now c.loop-number.desk s1 t1
           (h.2, h.1.1))
           (missed_later c.args.host.now c.loop-number.host before.acts.setup c.args.desk.now c.loop-number.desk s1 t1
           (h.2, h.1.1) (Rose between last) (Rose start last) missed_then) h.0 k)

@@ -5,7 +5,7 @@ use Rattle.cct_model.specs.lines.entry.LineKind.TheVariants as kind
 use Rattle.cct_live_service.specs.AtDesk.{Both, FollowsDesk}
 use Rattle.cct_live_service.specs.Doing.{Does, DoesLine, Finds, IsStating, Tells, is_known}
 use Rattle.cct_live_service.specs.Hears.{HearsMore}
-use Rattle.cct_live_service.specs.Known.{MissedFrom, Rested}
+use Rattle.cct_live_service.specs.Known.{MissedFrom, Rested, TaskAfter}
 use Rattle.cct_live_service.specs.declared.input.InputLine.TheVariants as input
 use Rattle.cct_live_service.specs.Linked.{UsesLink, watched}
 use Rattle.cct_live_service.specs.Parts.{Acts}
@@ -29,6 +29,7 @@ returns-in-Err g c =
     let host = c.args.host.now in
     let devices = (setup_of host).devices in
     let rested = Rested host c.args.desk.now in
+    let tasks = TaskAfter host c.args.desk.now in
     let number = c.args.number in
     let misses = g.O.Outside.misses in
     let missed = MissedFrom host (Rose (misses c.args.outside.now) (misses c.args.outside.now)) in
@@ -38,7 +39,7 @@ returns-in-Err g c =
     let uses = Both (UsesLink g.L.Link.gives link.sent link.failures devices roll roll line
     (watched c.args.link.now c.refuse.new.page)) follows in
     record {
-      acts = subst (λ said. Acts sink.written sink.puts sink.faults uses (Finds known known (DoesLine rested missed devices known number said))
+      acts = subst (λ said. Acts sink.written sink.puts sink.faults uses (Finds known known (DoesLine rested tasks missed devices known number said))
           result c.args.out.now c.refuse.new.out host c.refuse.new.host) (sym c.in-Err.is)
           (roll_quiet sink.written sink.puts sink.faults g.L.Link.gives link.sent link.failures devices roll
           c.args.link.now c.args.page.now c.refuse.new.page c.refuse.ensures.watch follows
@@ -63,6 +64,7 @@ returns-then-is_known g c =
     let host = c.args.host.now in
     let devices = (setup_of host).devices in
     let rested = Rested host c.args.desk.now in
+    let tasks = TaskAfter host c.args.desk.now in
     let number = c.args.number in
     let misses = g.O.Outside.misses in
     let missed = MissedFrom host (Rose (misses c.args.outside.now) (misses c.obey.new.outside)) in
@@ -71,12 +73,12 @@ returns-then-is_known g c =
     let uses = Both (UsesLink g.L.Link.gives link.sent link.failures devices roll c.obey.new.roll (watched c.args.link.now c.args.page.now)
     (watched c.obey.new.link c.obey.new.page)) (FollowsDesk c.obey.result c.args.desk.now c.obey.new.desk) in
     record {
-      acts = subst (λ said. Acts sink.written sink.puts sink.faults uses (Finds known now (DoesLine rested missed devices known number said))
+      acts = subst (λ said. Acts sink.written sink.puts sink.faults uses (Finds known now (DoesLine rested tasks missed devices known number said))
           c.obey.result c.args.out.now c.obey.new.out host c.obey.new.host) (sym (c.in-Ok-Host.is ∙ ap (λ said. Ok said) (rw c.in-Ok-Host.is at c.in-Ok-Host.field-0-is)))
           (acts_weaker sink.written sink.puts sink.faults c.obey.result c.args.out.now c.obey.new.out host c.obey.new.host
-          (Finds known now (Does rested missed devices known said)) (Finds known now (DoesLine rested missed devices known number (Ok (input.Host said))))
-          (finds_weaker known now (Does rested missed devices known said) (DoesLine rested missed devices known number (Ok (input.Host said)))
-          (known_line rested missed (is_known devices said) there devices known number said))
+          (Finds known now (Does rested tasks missed devices known said)) (Finds known now (DoesLine rested tasks missed devices known number (Ok (input.Host said))))
+          (finds_weaker known now (Does rested tasks missed devices known said) (DoesLine rested tasks missed devices known number (Ok (input.Host said)))
+          (known_line rested tasks missed (is_known devices said) there devices known number said))
           c.obey.ensures.acts);
       later = c.obey.ensures.later;
       heard = subst (λ said. HearsMore g.O.Outside.heard c.args.outside.now c.obey.new.outside (unnamed devices number said))
@@ -96,6 +98,7 @@ returns-else-is_known g c =
     let host = c.args.host.now in
     let devices = (setup_of host).devices in
     let rested = Rested host c.args.desk.now in
+    let tasks = TaskAfter host c.args.desk.now in
     let number = c.args.number in
     let misses = g.O.Outside.misses in
     let missed = MissedFrom host (Rose (misses c.args.outside.now) (misses c.refuse_unknown.new.outside)) in
@@ -107,18 +110,18 @@ returns-else-is_known g c =
     let uses = Both (UsesLink g.L.Link.gives link.sent link.failures devices roll roll line
     (watched c.args.link.now c.refuse_unknown.new.page)) follows in
     record {
-      acts = subst (λ said. Acts sink.written sink.puts sink.faults uses (Finds known known (DoesLine rested missed devices known number said))
+      acts = subst (λ said. Acts sink.written sink.puts sink.faults uses (Finds known known (DoesLine rested tasks missed devices known number said))
           result c.args.out.now c.refuse_unknown.new.out host c.refuse_unknown.new.host) (sym (c.in-Ok-Host.is ∙ ap (λ said. Ok said) (rw c.in-Ok-Host.is at c.in-Ok-Host.field-0-is)))
           (roll_quiet sink.written sink.puts sink.faults g.L.Link.gives link.sent link.failures devices roll
           c.args.link.now c.args.page.now c.refuse_unknown.new.page c.refuse_unknown.ensures.watch follows
           result c.args.out.now c.refuse_unknown.new.out host c.refuse_unknown.new.host
-          (Finds known known (DoesLine rested missed devices known number (Ok (input.Host said))))
+          (Finds known known (DoesLine rested tasks missed devices known number (Ok (input.Host said))))
           (quiet_at_desk sink.written sink.puts sink.faults desk result c.args.out.now c.refuse_unknown.new.out host
-          c.refuse_unknown.new.host (Finds known known (DoesLine rested missed devices known number (Ok (input.Host said))))
+          c.refuse_unknown.new.host (Finds known known (DoesLine rested tasks missed devices known number (Ok (input.Host said))))
           (acts_weaker sink.written sink.puts sink.faults result c.args.out.now c.refuse_unknown.new.out host
-          c.refuse_unknown.new.host does (Finds known known (DoesLine rested missed devices known number (Ok (input.Host said))))
-          (λ steps told h. finds_weaker known known does (DoesLine rested missed devices known number (Ok (input.Host said)))
-          (unknown_line rested missed (is_known devices said) there devices known number said) steps told
+          c.refuse_unknown.new.host does (Finds known known (DoesLine rested tasks missed devices known number (Ok (input.Host said))))
+          (λ steps told h. finds_weaker known known does (DoesLine rested tasks missed devices known number (Ok (input.Host said)))
+          (unknown_line rested tasks missed (is_known devices said) there devices known number said) steps told
           (finds_none known does (tells_finds number kind.Device) steps told h))
           c.refuse_unknown.ensures.acts)));
       later = c.refuse_unknown.ensures.later;
@@ -139,6 +142,7 @@ returns-in-Ok-State g c =
     let host = c.args.host.now in
     let devices = (setup_of host).devices in
     let rested = Rested host c.args.desk.now in
+    let tasks = TaskAfter host c.args.desk.now in
     let number = c.args.number in
     let misses = g.O.Outside.misses in
     let missed = MissedFrom host (Rose (misses c.args.outside.now) (misses c.state.new.outside)) in
@@ -150,7 +154,7 @@ returns-in-Ok-State g c =
     let uses = Both (UsesLink g.L.Link.gives link.sent link.failures devices roll roll line
     (watched c.args.link.now c.state.new.page)) follows in
     record {
-      acts = subst (λ said. Acts sink.written sink.puts sink.faults uses (Finds known known (DoesLine rested missed devices known number said))
+      acts = subst (λ said. Acts sink.written sink.puts sink.faults uses (Finds known known (DoesLine rested tasks missed devices known number said))
           result out told host after) (sym (c.in-Ok-State.is ∙ ap (λ said. Ok said) (rw c.in-Ok-State.is at c.in-Ok-State.field-0-is)))
           (roll_quiet sink.written sink.puts sink.faults g.L.Link.gives link.sent link.failures devices roll
           c.args.link.now c.args.page.now c.state.new.page c.state.ensures.watch follows
