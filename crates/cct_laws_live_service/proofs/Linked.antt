@@ -1,8 +1,10 @@
 -- What goes over the link of a service is a chain of the entries that it reports.
-use Rattle.std.proofs.Common.{◌≡◌, ℕ, Bool, true, List, [], ◌∷◌, ◌++◌, sym, ap, refl, ◌∙◌, subst, append-nil, append_assoc, true≢false}
+use Rattle.std.proofs.Common.{◌≡◌, ℕ, Bool, true, Some, List, [], ◌∷◌, ◌++◌, sym, ap, refl, ◌∙◌, subst, append-nil, append_assoc, true≢false}
 use Rattle.cct_model.specs.terms.device.DeviceSetup.{DeviceSetup}
 use Rattle.cct_model.specs.lines.entry.Entry.{Entry}
 use Rattle.cct_model.specs.lines.entry.Entry.TheVariants as entry_of
+use Rattle.cct_live_survey.specs.declared.finding.Finding.{Finding}
+use Rattle.cct_live_survey.specs.declared.roll.TheConstants.{MOST_FINDINGS}
 use Rattle.cct_live_survey.specs.Roll.{Rolled}
 use Rattle.cct_laws_live_devices.specs.Chain.{Chain, gave_told, is_besides, not_begun, told_besides}
 use Rattle.cct_laws_live_devices.proofs.Chains.{chains}
@@ -10,9 +12,9 @@ use Rattle.cct_laws_live_devices.proofs.Sending.{AllAsked, asked_first, asked_re
 use Rattle.cct_live_service.specs.declared.notice.Notice.{Notice}
 use Rattle.cct_live_service.specs.declared.watch.Watch.{Watch}
 use Rattle.cct_live_service.specs.Asked.{most_asked}
-use Rattle.cct_live_service.specs.Linked.{ExchangesSince, UsesLink, Watched, asks, due_next, goes_on, has_counted, tells, watch_next}
+use Rattle.cct_live_service.specs.Linked.{ExchangesSince, UsesLink, Watched, asks, decides, decides_at, due_next, goes_on, has_counted, tells, watch_next}
 use Rattle.cct_live_service.specs.Watch.{due_of, notices_in, watch_of}
-use Rattle.cct_live_service.specs.Told.{Told, answer_news, entry, falls_short, finding, knows, last, news_of, notice, operates, pay_of, pays, refused, refused_for, taken, unsent, withheld_for}
+use Rattle.cct_live_service.specs.Told.{Told, answer_news, entry, falls_short, finding, found_told, knows, last, news_of, notice, operates, pay_of, pays, refused, refused_for, taken, unsent, withheld_for}
 use Rattle.cct_laws_live_service.proofs.Rolls.{roll_chain}
 
 -- what is reported in two parts
@@ -104,11 +106,29 @@ module _ {L : Type 0} (gives : L → List ℕ → List ℕ → L → Type 0) (se
   exchanges_chain due old new (knows all line ∷ told) asked exchanges =
       exchanges_chain (due_next old.watch due (knows all line)) old new told asked exchanges.1
 
+  -- a decision, and what devices said before it
+  decided_chain : (line : L) (addr : ℕ) (found : List Finding) (what : Told) → decides_at what ≡ Some addr →
+      Chain gives line (news_of (found_told found ++ what ∷ [])) line
+  decided_chain line addr (f ∷ found) what at = decided_chain line addr found what at
+  decided_chain line addr [] (entry (entry_of.Taken c)) at = after_entry line line (entry_of.Taken c) [] refl not_begun
+  decided_chain line addr [] (entry (entry_of.No c why)) at = after_entry line line (entry_of.No c why) [] refl not_begun
+  decided_chain line addr [] (notice n) at = not_begun
+  decided_chain line addr [] (pays p taken) at = after_entry line line (entry_of.Taken (pay_of p)) [] refl not_begun
+  decided_chain line addr [] (pays p (refused_for why)) at =
+      after_entry line line (entry_of.No (pay_of p) why) [] refl not_begun
+  decided_chain line addr [] (pays p (withheld_for why)) at = not_begun
+  decided_chain line addr [] what at = cc at
+
   pub uses_chain : (roll now : Rolled) (old new : Watched L) (told : List Told) → AllAsked (news_of told) →
       UsesLink gives sent failures devices roll now old new told → Chain gives old.link (news_of told) new.link
   uses_chain _ _ _ _ _ asked (tells roll old new told exchanges) = exchanges_chain [] old new told asked exchanges
   uses_chain _ _ _ _ _ asked (asks whom answered roll now old new watch questions) =
       roll_chain gives devices whom (most_asked whom) roll old answered now new questions
+  uses_chain _ _ _ _ _ asked (decides addr answered roll now old new watch found what questions at) =
+      subst (λ es. Chain gives old es new) (append-nil (news_of (found_told found ++ what ∷ [])))
+      (chains gives old new new [] (news_of (found_told found ++ what ∷ []))
+      (roll_chain gives devices (Some addr) MOST_FINDINGS roll old answered now new questions)
+      (decided_chain new addr found what at))
   uses_chain _ _ _ _ _ asked (goes_on roll between now old line new told more first then) =
       let both = subst AllAsked (news_both told more) asked in
       subst (λ es. Chain gives old.link es new.link) (sym (news_both told more))

@@ -1,6 +1,8 @@
 -- What goes over a link, one part of a service after another.
-use Rattle.std.proofs.Common.{◌≡◌, ◌&&◌, ℕ, List, [], ◌∷◌, ◌++◌, reverse, Bool, true, false, Option, Some, None, Result, Ok, Err, refl, sym, ap, ◌∙◌, subst}
+use Rattle.std.proofs.Common.{◌≡◌, ◌&&◌, ℕ, List, [], ◌∷◌, ◌++◌, reverse, Bool, true, false, Option, Some, None, Result, Ok, Err, refl, sym, ap, ◌∙◌, subst, append_assoc}
 use Rattle.cct_edge.specs.declared.fault.Failed.{Failed}
+use Rattle.cct_model.specs.lines.command.Command.{Command}
+use Rattle.cct_model.specs.lines.command.CommandNo.{CommandNo}
 use Rattle.cct_model.specs.lines.entry.End.{End}
 use Rattle.cct_model.specs.lines.entry.Entry.{Entry}
 use Rattle.cct_model.specs.lines.entry.Entry.TheVariants as entry_of
@@ -12,7 +14,9 @@ use Rattle.cct_host.specs.Attempt as attempt
 use Rattle.cct_host.specs.declared.host.Host.{Host}
 use Rattle.cct_host.specs.Host.{has_failed, setup_of}
 use Rattle.cct_laws_live.specs.LiveStep.{LiveStep}
+use Rattle.cct_live_survey.specs.declared.finding.Finding.{Finding}
 use Rattle.cct_live_survey.specs.declared.roll.Answered.{Answered}
+use Rattle.cct_live_survey.specs.declared.withholding.Withheld.{Withheld}
 use Rattle.cct_live_survey.specs.Roll.{AsksRoll, Rolled}
 use Rattle.cct_live_service.specs.declared.notice.Notice.{Notice}
 use Rattle.cct_live_service.specs.declared.notice.Notice.TheVariants as notice_of
@@ -21,14 +25,15 @@ use Rattle.cct_live_service.specs.declared.served.Served.{Served}
 use Rattle.cct_live_service.specs.declared.served.Served.TheVariants as served
 use Rattle.cct_live_service.specs.declared.watch.Watch.{Watch}
 use Rattle.cct_model.specs.Change.{Desk}
-use Rattle.cct_live_service.specs.Asked.{most_asked}
+use Rattle.cct_live_service.specs.Asked.{AsksAt, IsNobody, asked_before, is_nobody, most_asked}
 use Rattle.cct_live_service.specs.AtDesk.{Both, FollowsDesk, FollowsTo, IsApart}
-use Rattle.cct_live_service.specs.Linked.{AreQuiet, AreStanding, Exchanges, ExchangesSince, UsesLink, Watched, are_quiet, asks, due_next, goes_on, has_counted, is_quiet, tells, watch_next, watched}
+use Rattle.cct_live_service.specs.Doing.{Finds, IsAsking}
+use Rattle.cct_live_service.specs.Linked.{AreQuiet, AreStanding, Exchanges, ExchangesSince, IsDecision, UsesLink, Watched, are_quiet, asks, decides, decides_at, due_next, goes_on, has_counted, is_quiet, tells, watch_next, watched}
 use Rattle.cct_live_service.specs.Parts.{Acts, LivesOn, LivesTo}
 use Rattle.cct_live_service.specs.Said.{IsOfInput}
 use Rattle.cct_live_service.specs.Found.{Begun, found_there, made_new}
 use Rattle.cct_live_service.specs.Opening.{opening_of}
-use Rattle.cct_live_service.specs.Told.{Told, as_told, attempt_told, entry, notice, notices_told, unsent}
+use Rattle.cct_live_service.specs.Told.{Told, as_told, attempt_told, entry, found_told, notice, notices_told, pays, unsent}
 use Rattle.cct_live_service.specs.Watch.{due_after, due_of, ended_at, notices_in, watch_after, watch_of}
 use Rattle.cct_live_service.proofs.Desks.{apart_follows, follows_then, follows_to}
 use Rattle.cct_live_service.proofs.Parts.{acts_linked, acts_none, acts_then, lives_linked, stops_to}
@@ -47,6 +52,32 @@ quiet_then (what ∷ t1) t2 h k =
     quiet_parts : (b c : Bool) → (b && c) ≡ true → (b ≡ true) × (c ≡ true)
     quiet_parts true c h = (refl, h)
     quiet_parts false c h = cc h
+
+-- about nobody, and then quiet lines
+nobody : (whom : Option ℕ) (b : Bool) → (is_nobody whom && b) ≡ true → IsNobody whom × (b ≡ true)
+nobody None b h = (tt, h)
+nobody (Some addr) b h = cc h
+
+-- a decision alone
+decision_alone : (what : Told) (whom : Option ℕ) → decides_at what ≡ whom → is_quiet what ≡ is_nobody whom →
+    IsDecision whom (what ∷ [])
+decision_alone what None at quiet = all_quiet (is_quiet what) true quiet refl
+decision_alone what (Some addr) at quiet = (what, [], refl, at, refl)
+
+pub taken_decides : (c : Command) → IsDecision (asked_before c) (entry (entry_of.Taken c) ∷ [])
+taken_decides c = decision_alone (entry (entry_of.Taken c)) (asked_before c) refl refl
+
+pub refused_decides : (c : Command) (why : CommandNo) → IsDecision (asked_before c) (entry (entry_of.No c why) ∷ [])
+refused_decides c why = decision_alone (entry (entry_of.No c why)) (asked_before c) refl refl
+
+pub withheld_decides : (c : Command) (why : Withheld) →
+    IsDecision (asked_before c) (notice (notice_of.Withheld c why) ∷ [])
+withheld_decides c why = decision_alone (notice (notice_of.Withheld c why)) (asked_before c) refl refl
+
+-- what devices said of themselves, and then quiet lines
+quiet_found : (found : List Finding) (told : List Told) → AreQuiet told → AreQuiet (found_told found ++ told)
+quiet_found [] told h = h
+quiet_found (f ∷ found) told h = quiet_found found told h
 
 -- what is reported first is quiet
 pub opening_quiet : (setup : Setup) (begun : Begun) → AreQuiet (notice (opening_of setup begun) ∷ [])
@@ -67,6 +98,13 @@ module _ {L : Type 0} (gives : L → List ℕ → List ℕ → L → Type 0) (se
   since_quiet line (notice notice_of.LineBack ∷ told) h = cc h
   since_quiet line (notice (notice_of.Held addr place) ∷ told) h = cc h
   since_quiet line (notice (notice_of.Device addr job epoch order) ∷ told) h = cc h
+  since_quiet line (entry (entry_of.Taken c) ∷ told) h =
+      let parts = nobody (asked_before c) (are_quiet told) h in (parts.0, since_quiet line told parts.1)
+  since_quiet line (entry (entry_of.No c why) ∷ told) h =
+      let parts = nobody (asked_before c) (are_quiet told) h in (parts.0, since_quiet line told parts.1)
+  since_quiet line (notice (notice_of.Withheld c why) ∷ told) h =
+      let parts = nobody (asked_before c) (are_quiet told) h in (parts.0, since_quiet line told parts.1)
+  since_quiet line (pays p answer ∷ told) h = cc h
   since_quiet line (what ∷ told) h = (tt, since_quiet line told h)
 
   -- nor where devices are reported as they stand
@@ -239,6 +277,25 @@ module _ {L : Type 0} (gives : L → List ℕ → List ℕ → L → Type 0) (se
       goes_on roll now now (watched old before) (watched new before) (watched new after) [] told
       (asks whom answered roll now old new before.watch questions) (uses_quiet now new before after same told h)
 
+  -- a decision after what was asked first
+  pub uses_decided : (whom : Option ℕ) (roll now : Rolled) (old new : L) (before after : Page) → after.watch ≡ before.watch →
+      AsksAt gives devices whom roll old now new → (found : List Finding) (told : List Told) → IsDecision whom told →
+      UsesLink gives sent failures devices roll now (watched old before) (watched new after) (found_told found ++ told)
+  uses_decided None roll now old new before after same first found told quiet =
+      subst (λ r. UsesLink gives sent failures devices roll r (watched old before) (watched new after) (found_told found ++ told))
+      (sym first.0)
+      (subst (λ l. UsesLink gives sent failures devices roll roll (watched old before) (watched l after) (found_told found ++ told))
+      (sym first.1)
+      (uses_quiet roll old before after same (found_told found ++ told) (quiet_found found told quiet)))
+  uses_decided (Some addr) roll now old new before after same first found told is =
+      subst (λ t. UsesLink gives sent failures devices roll now (watched old before) (watched new after) (found_told found ++ t))
+      (sym is.2)
+      (subst (UsesLink gives sent failures devices roll now (watched old before) (watched new after))
+      (append_assoc (found_told found) (is.0 ∷ []) is.1)
+      (goes_on roll now now (watched old before) (watched new before) (watched new after) (found_told found ++ is.0 ∷ []) is.1
+      (decides addr first.0 roll now old new before.watch found is.0 first.1 is.3)
+      (uses_quiet now new before after same is.1 is.4)))
+
 module _ {L : Type 0} (gives : L → List ℕ → List ℕ → L → Type 0) (sent : L → Bool) (failures : L → ℕ) where
   -- exchanges of one part, and then of another
   pub exchanges_then : (first between : Setup) → between ≡ first → (old line new : Watched L) (t1 t2 : List Told) →
@@ -261,6 +318,10 @@ pub both_then : (S T U V W X : List Told → Type 0) → ((t1 t2 : List Told) �
     ((t1 t2 : List Told) → V t1 → W t2 → X (t1 ++ t2)) → (t1 t2 : List Told) → Both S V t1 → Both T W t2 →
     Both U X (t1 ++ t2)
 both_then S T U V W X one other t1 t2 h k = (one t1 t2 h.0 k.0, other t1 t2 h.1 k.1)
+
+-- what was found is reported, and nothing else
+abbrev TellsFound : (List Told → Type 0) → List Told → Type 0
+TellsFound V told = ((found : List Finding) × (told ≡ found_told found)) × V told
 
 -- of a sink with a count of faults
 module _ {K : Type 0} (written : K → Option (List ℕ)) (puts : K → List ℕ → Result (Unit {0}) Failed → K → Type 0)
@@ -453,3 +514,46 @@ module _ {K : Type 0} (written : K → Option (List ℕ)) (puts : K → List ℕ
         uses_asked gives sent failures devices whom answered roll now old new before after same questions told h.0,
         h.1,
       ))
+
+  -- what was found is reported
+  found_alone : (S V : List Told → Type 0) (x y : List Finding) (a b : K) (old new : Host D g) →
+      Acts written puts faults (Both S V) (Finds x y IsAsking) (Ok tt) a b old new →
+      Acts written puts faults (TellsFound V) (Finds x y IsAsking) (Ok tt) a b old new
+  found_alone S V x y a b old new h = record {
+    whole = h.whole;
+    setup = h.setup;
+    lives = record {
+      steps = h.lives.steps;
+      told = h.lives.told;
+      wrote = h.lives.wrote;
+      goes = h.lives.goes;
+      does = h.lives.does;
+      linked = ((h.lives.does.0.0, h.lives.does.0.1.1), h.lives.linked.1);
+    };
+    sink = h.sink;
+    disk = h.disk;
+  }
+
+  -- a device is asked first, and then it is decided
+  pub roll_decided : (whom : Option ℕ) (roll now : Rolled) (old new : L) (before between after : Page) →
+      between.watch ≡ before.watch → after.watch ≡ between.watch → (S V W X : List Told → Type 0) →
+      ((t1 t2 : List Told) → V t1 → W t2 → X (t1 ++ t2)) → (result : Result (Unit {0}) Served) (a b c : K)
+      (first mid last : Host D g) (x y : List Finding) (Q R : List LiveStep → List Told → Type 0) →
+      ((s1 s2 : List LiveStep) (t1 t2 : List Told) → Finds x y IsAsking s1 t1 → Q s2 t2 → R (s1 ++ s2) (t1 ++ t2)) →
+      AsksAt gives (setup_of first).devices whom roll old now new →
+      Acts written puts faults (Both S V) (Finds x y IsAsking) (Ok tt) a b first mid →
+      Acts written puts faults (Both (IsDecision whom) W) Q result b c mid last →
+      Acts written puts faults
+      (Both (UsesLink gives sent failures (setup_of first).devices roll now (watched old before) (watched new after)) X) R result
+      a c first last
+  roll_decided whom roll now old new before between after kept same S V W X joins result a b c first mid last x y Q R to first_asked h k =
+      acts_then written puts faults (TellsFound V) (Both (IsDecision whom) W)
+      (Both (UsesLink gives sent failures (setup_of first).devices roll now (watched old before) (watched new after)) X)
+      (λ t1 t2 found decided. (
+        subst (λ t. UsesLink gives sent failures (setup_of first).devices roll now (watched old before) (watched new after) (t ++ t2))
+            (sym found.0.1)
+            (uses_decided gives sent failures (setup_of first).devices whom roll now old new before after (same ∙ kept) first_asked
+            found.0.0 t2 decided.0),
+        joins t1 t2 found.1 decided.1,
+      ))
+      result a b c first mid last (Finds x y IsAsking) Q R to (found_alone S V x y a b first mid h) k

@@ -1,5 +1,5 @@
 -- Which questions are asked at once.
-use Rattle.std.specs.Prelude.{◌≡◌, ℕ, List, Option, Some, None}
+use Rattle.std.specs.Prelude.{◌≡◌, ℕ, List, Option, Some, None, Bool, true, false, ⊤}
 use Rattle.cct_model.specs.lines.command.Command.{Command}
 use Rattle.cct_model.specs.lines.command.Command.TheVariants.{Pay, Start}
 use Rattle.cct_model.specs.terms.device.DeviceSetup.{DeviceSetup}
@@ -19,6 +19,15 @@ abbrev pub asked_before : Command → Option ℕ
 asked_before (Pay addr id count) = Some addr
 asked_before (Start addr mask) = Some addr
 asked_before c = None
+
+-- Nobody is asked.
+abbrev pub is_nobody : Option ℕ → Bool
+is_nobody None = true
+is_nobody (Some addr) = false
+
+abbrev pub IsNobody : Option ℕ → Type 0
+IsNobody None = ⊤
+IsNobody (Some addr) = ⊥
 
 -- Over a link of which is known what an exchange gives: the device at an address was asked what is
 -- left there, up to the first silence; or nobody was.

@@ -1,21 +1,33 @@
 -- What goes over the link of a service, against what is reported of it.
 use Rattle.std.specs.Prelude.{◌≡◌, ℕ, ◌==◌, ◌&&◌, not, Bool, true, false, List, [], ◌∷◌, ◌++◌}
-use Rattle.std.specs.Prelude.{Option, ⊤}
+use Rattle.std.specs.Prelude.{Option, Some, None}
 use Rattle.cct_model.specs.terms.device.DeviceSetup.{DeviceSetup}
 use Rattle.cct_model.specs.lines.entry.Entry.TheVariants as entry_of
+use Rattle.cct_live_survey.specs.declared.finding.Finding.{Finding}
 use Rattle.cct_live_survey.specs.declared.roll.Answered.{Answered}
+use Rattle.cct_live_survey.specs.declared.roll.TheConstants.{MOST_FINDINGS}
 use Rattle.cct_live_survey.specs.Roll.{AsksRoll, Rolled}
 use Rattle.cct_live_service.specs.declared.notice.Notice.{Notice}
 use Rattle.cct_live_service.specs.declared.notice.Notice.TheVariants as notice_of
 use Rattle.cct_live_service.specs.declared.page.Page.{Page}
 use Rattle.cct_live_service.specs.declared.page.Went.{Went}
 use Rattle.cct_live_service.specs.declared.watch.Watch.{Watch}
-use Rattle.cct_live_service.specs.Asked.{most_asked}
+use Rattle.cct_live_service.specs.Asked.{IsNobody, asked_before, is_nobody, most_asked}
 use Rattle.cct_live_service.specs.Status.{held_notices}
-use Rattle.cct_live_service.specs.Told.{Told, entry, notice, unsent}
+use Rattle.cct_live_service.specs.Told.{Told, entry, found_told, notice, pays, unsent}
 use Rattle.cct_live_service.specs.Watch.{due_of, notices_in, place_at, seen_at, watch_of}
 
--- What is reported is no exchange, no end of a job, and not how the line or a device is.
+-- Whom a decision is about that is reported, if its device is asked first: that on a payment or a
+-- start.
+abbrev pub decides_at : Told → Option ℕ
+decides_at (entry (entry_of.Taken c)) = asked_before c
+decides_at (entry (entry_of.No c why)) = asked_before c
+decides_at (notice (notice_of.Withheld c why)) = asked_before c
+decides_at (pays p answer) = Some p.addr
+decides_at what = None
+
+-- What is reported is no exchange, no end of a job, no such decision, and not how the line or a
+-- device is.
 abbrev pub is_quiet : Told → Bool
 is_quiet (entry (entry_of.Wire addr message heard)) = false
 is_quiet (entry (entry_of.Ended addr end)) = false
@@ -24,16 +36,23 @@ is_quiet (notice notice_of.LineFault) = false
 is_quiet (notice notice_of.LineBack) = false
 is_quiet (notice (notice_of.Held addr place)) = false
 is_quiet (notice (notice_of.Device addr job epoch order)) = false
-is_quiet what = true
+is_quiet what = is_nobody (decides_at what)
 
 -- All of it is so.
 abbrev pub are_quiet : List Told → Bool
 are_quiet [] = true
 are_quiet (what ∷ told) = is_quiet what && are_quiet told
 
--- These lines report no exchange, and not how the line or a device is.
+-- These lines report no exchange, no such decision, and not how the line or a device is.
 abbrev pub AreQuiet : List Told → Type 0
 AreQuiet told = are_quiet told ≡ true
+
+-- They report what is decided, about the device that is asked first or nobody.
+abbrev pub IsDecision : Option ℕ → List Told → Type 0
+IsDecision None = AreQuiet
+IsDecision (Some addr) =
+    λ told. (what : Told) × (more : List Told) × (told ≡ what ∷ more)
+    × (decides_at what ≡ Some addr) × AreQuiet more
 
 -- Of a link that counts its failures: by an exchange that count changed.
 abbrev pub has_counted : {L : Type 0} → (L → ℕ) → L → L → Bool
@@ -53,14 +72,15 @@ due_next w (n ∷ due) (notice m) = due
 due_next w (n ∷ due) what = n ∷ due
 
 -- This may be reported where these notices come next: the first of them, or an entry of the same
--- step. How the line is, and a bill that is held, is reported only where it comes next.
+-- step. How the line is, and a bill that is held, is reported only where it comes next, and what is
+-- decided about a device that is asked first isn't.
 abbrev pub ComesAmong : List Notice → Told → Type 0
 ComesAmong [] (notice notice_of.LineFault) = ⊥
 ComesAmong [] (notice notice_of.LineBack) = ⊥
 ComesAmong [] (notice (notice_of.Held addr place)) = ⊥
-ComesAmong [] what = ⊤
+ComesAmong [] what = IsNobody (decides_at what)
 ComesAmong (n ∷ due) (notice m) = m ≡ n
-ComesAmong (n ∷ due) (entry e) = ⊤
+ComesAmong (n ∷ due) (entry e) = IsNobody (decides_at (entry e))
 ComesAmong (n ∷ due) what = ⊥
 
 -- What is remembered after this was reported, which is no exchange.
@@ -125,7 +145,9 @@ module _ {L : Type 0} (gives : L → List ℕ → List ℕ → L → Type 0) (se
   Exchanges = ExchangesSince []
 
   -- All that went over a link, for the devices and their roll: exchanges that are reported, and
-  -- questions of the roll, of which no exchange is reported, one after another.
+  -- questions of the roll, of which no exchange is reported, one after another. What is decided of a
+  -- payment or a start is reported only after the device there was asked what is left, up to a
+  -- silence, and what it said.
   pub data UsesLink : Rolled → Rolled → Watched L → Watched L → List Told → Type 0 where
     tells : (roll : Rolled) (old new : Watched L) (told : List Told) → Exchanges old new told
         → UsesLink roll roll old new told
@@ -133,6 +155,12 @@ module _ {L : Type 0} (gives : L → List ℕ → List ℕ → L → Type 0) (se
         → AsksRoll gives devices whom (most_asked whom) roll old answered now new
         → UsesLink roll now (record { link = old; watch = watch })
         (record { link = new; watch = watch }) []
+    decides : (addr : ℕ) (answered : Answered) (roll now : Rolled) (old new : L) (watch : Watch)
+        (found : List Finding) (what : Told)
+        → AsksRoll gives devices (Some addr) MOST_FINDINGS roll old answered now new
+        → decides_at what ≡ Some addr
+        → UsesLink roll now (record { link = old; watch = watch })
+        (record { link = new; watch = watch }) (found_told found ++ what ∷ [])
     goes_on : (roll between now : Rolled) (old line new : Watched L) (told more : List Told)
         → UsesLink roll between old line told → UsesLink between now line new more
         → UsesLink roll now old new (told ++ more)

@@ -75,6 +75,7 @@ pub(crate) fn ask_before<K: Sink, D: Disk, L: CountedLink>(
         (Finds roll.old.findings roll.new.findings IsAsking) result out.old out.new host.old host.new }
     ensures asks { AsksAt L.gives (setup_of host.old).devices (asked_before command.now) roll.old
         link.old roll.new link.new }
+    ensures watch { page.new.watch ≡ page.old.watch }
 {
     match asked_before(command) {
         Some(addr) => ask_at(host, roll, addr, link, out, page),
@@ -110,6 +111,7 @@ fn ask_at<K: Sink, D: Disk, L: CountedLink>(
         (Finds roll.old.findings roll.new.findings IsAsking) result out.old out.new host.old host.new }
     ensures asks { AsksAt L.gives (setup_of host.old).devices (Some addr) roll.old link.old roll.new
         link.new }
+    ensures watch { page.new.watch ≡ page.old.watch }
 {
     let known = roll.findings().len();
     let answered = roll.ask_at(host.setup(), addr, link);

@@ -5,11 +5,12 @@ ghost use Rattle.cct_host.specs.Host.{Keeps, disk_of, has_failed, setup_of};
 ghost use Rattle.cct_laws_live.specs.LiveStep as live;
 ghost use Rattle.cct_model.specs.Script.{IsCommand};
 ghost use Rattle.cct_model.specs.lines.entry.Entry.{Entry};
+ghost use Rattle.cct_live_service.specs.Asked.{asked_before};
 ghost use Rattle.cct_live_service.specs.AtDesk.{Both, IsApart};
 ghost use Rattle.cct_live_service.specs.Doing.{DoesCommand, IsOrder, IsStatus, TellsOne};
 ghost use Rattle.cct_live_service.specs.Hears.{HearsMore};
 ghost use Rattle.cct_live_service.specs.Known.{MissedFrom};
-ghost use Rattle.cct_live_service.specs.Linked.{AreQuiet, AreStanding};
+ghost use Rattle.cct_live_service.specs.Linked.{AreQuiet, AreStanding, IsDecision};
 ghost use Rattle.cct_live_service.specs.Parts.{Acts, HostGoes};
 ghost use Rattle.cct_live_service.specs.Reported.{IsJust, IsOrderOf, open_by, open_in};
 ghost use Rattle.cct_live_service.specs.Told.{as_told};
@@ -38,7 +39,7 @@ pub(crate) fn answer_or_withhold<K: Sink, D: Disk>(
 ) -> Result<(), Served>
     requires whole { has_failed host.old ≡ false }
     requires told { IsCommand command.now }
-    ensures acts { Acts K.written K.puts K.faults (Both AreQuiet IsApart)
+    ensures acts { Acts K.written K.puts K.faults (Both (IsDecision (asked_before command.now)) IsApart)
         (DoesCommand command.now (withheld_by findings.now command.now))
         result out.old out.new host.old host.new }
     ensures watch { page.new.watch ≡ page.old.watch }
@@ -58,7 +59,7 @@ fn withhold<K: Sink, D: Disk>(
     page: &mut Page,
 ) -> Result<(), Served>
     requires whole { has_failed host.old ≡ false }
-    ensures acts { Acts K.written K.puts K.faults (Both AreQuiet IsApart) (DoesCommand command.now (Some why))
+    ensures acts { Acts K.written K.puts K.faults (Both (IsDecision (asked_before command.now)) IsApart) (DoesCommand command.now (Some why))
         result out.old out.new host.old host.new }
     ensures watch { page.new.watch ≡ page.old.watch }
 {
@@ -78,7 +79,7 @@ pub(crate) fn answer<K: Sink, D: Disk>(
 ) -> Result<(), Served>
     requires whole { has_failed host.old ≡ false }
     requires told { IsCommand command.now }
-    ensures acts { Acts K.written K.puts K.faults (Both AreQuiet IsApart) (TellsOne (live.command command.now))
+    ensures acts { Acts K.written K.puts K.faults (Both (IsDecision (asked_before command.now)) IsApart) (TellsOne (live.command command.now))
         result out.old out.new host.old host.new }
     ensures watch { page.new.watch ≡ page.old.watch }
 {
@@ -95,7 +96,7 @@ fn answer_of<D: Disk>(host: &mut Host<'_, D>, command: &Command) -> Entry
     ensures disk { disk_of host.new ≡ disk_of host.old }
     ensures lives { HostGoes host.old (live.command command.now ∷ [])
         (as_told (result ∷ [])) host.new }
-    ensures quiet { Both AreQuiet IsApart (as_told (result ∷ [])) }
+    ensures quiet { Both (IsDecision (asked_before command.now)) IsApart (as_told (result ∷ [])) }
 {
     match host.command(command) {
         Ok(()) => Entry::Taken(*command),

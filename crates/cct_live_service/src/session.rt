@@ -23,7 +23,7 @@ ghost use Rattle.cct_live_service.specs.AtDesk.{Both, FollowsDesk, GivesAt};
 ghost use Rattle.cct_live_service.specs.Doing.{DecidesPay, DoesPay, Finds, IsServing, ServesOn};
 ghost use Rattle.cct_live_service.specs.Doing.{TellsStep};
 ghost use Rattle.cct_live_service.specs.Known.{Rested};
-ghost use Rattle.cct_live_service.specs.Linked.{AreQuiet, UsesLink, watched};
+ghost use Rattle.cct_live_service.specs.Linked.{AreQuiet, IsDecision, UsesLink, watched};
 ghost use Rattle.cct_live_service.specs.Parts.{Acts, HostGoes};
 ghost use Rattle.cct_live_service.specs.Session.{HasAsked};
 ghost use Rattle.cct_live_service.specs.Told.{WritesTold, as_told, falls_short, pay_of, pays};
@@ -242,7 +242,7 @@ fn give_or_withhold<K: Sink, D: Disk>(
     requires payable { IsCommand (pay_of payment) }
     requires waits { option_map (λ s. s.next) desk.old.session ≡ Some payment.id }
     ensures acts { (old : change.Desk) → Asks old desk.old payment → Acts K.written K.puts K.faults
-        (Both AreQuiet (FollowsDesk result old desk.new)) (DoesPay payment (withheld_by findings.now (pay_of payment))) result out.old out.new host.old host.new }
+        (Both (IsDecision (Some payment.addr)) (FollowsDesk result old desk.new)) (DoesPay payment (withheld_by findings.now (pay_of payment))) result out.old out.new host.old host.new }
     ensures watch { page.new.watch ≡ page.old.watch }
 {
     match withheld_by(findings, &command_of(payment)) {
@@ -263,7 +263,7 @@ fn give<K: Sink, D: Disk>(
     requires payable { IsCommand (pay_of payment) }
     requires waits { option_map (λ s. s.next) desk.old.session ≡ Some payment.id }
     ensures acts { (old : change.Desk) → Asks old desk.old payment → Acts K.written K.puts K.faults
-        (Both AreQuiet (FollowsDesk result old desk.new)) (DoesPay payment None)
+        (Both (IsDecision (Some payment.addr)) (FollowsDesk result old desk.new)) (DoesPay payment None)
         result out.old out.new host.old host.new }
     ensures watch { page.new.watch ≡ page.old.watch }
 {
@@ -333,7 +333,7 @@ fn withhold<K: Sink, D: Disk>(
     requires payable { IsCommand (pay_of payment) }
     requires waits { option_map (λ s. s.next) desk.old.session ≡ Some payment.id }
     ensures acts { (old : change.Desk) → Asks old desk.old payment → Acts K.written K.puts K.faults
-        (Both AreQuiet (FollowsDesk result old desk.new)) (DoesPay payment (Some why))
+        (Both (IsDecision (Some payment.addr)) (FollowsDesk result old desk.new)) (DoesPay payment (Some why))
         result out.old out.new host.old host.new }
     ensures watch { page.new.watch ≡ page.old.watch }
 {

@@ -29,4 +29,5 @@ returns g c =
           (asking_rest old now asked.ensures.grows.0 known asked.ensures.grows.1 (ap length c.findings-known.ensures))
           c.tell_new.ensures.acts);
       asks = (asked.result, asks);
+      watch = c.tell_new.ensures.watch;
     }

@@ -13,6 +13,7 @@ returns-in-Some g c = record {
   acts = c.ask_at.ensures.acts;
   asks = subst (λ whom. AsksAt g.L.Link.gives (setup_of c.args.host.now).devices whom c.args.roll.now c.args.link.now
       c.ask_at.new.roll c.ask_at.new.link) (sym c.in-Some.is ∙ c.asked_before.ensures) c.ask_at.ensures.asks;
+  watch = c.ask_at.ensures.watch;
 }
 
 pub returns-in-None : goal.returns-in-None
@@ -29,4 +30,5 @@ returns-in-None g c =
           (asking_none known);
       asks = subst (λ whom. AsksAt g.L.Link.gives (setup_of host).devices whom roll line roll line)
           (sym c.in-None.is ∙ c.asked_before.ensures) (refl, refl);
+      watch = refl;
     }

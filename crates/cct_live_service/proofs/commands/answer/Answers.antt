@@ -1,9 +1,10 @@
 use Rattle.std.proofs.Common.{◌∷◌, ◌++◌, [], ◌∙◌, ap, refl, sym, subst}
 use Rattle.cct_host.specs.Host.{disk_of}
 use Rattle.cct_laws_live.specs.LiveStep as live
+use Rattle.cct_live_service.specs.Asked.{asked_before}
 use Rattle.cct_live_service.specs.AtDesk.{Both, IsApart}
 use Rattle.cct_live_service.specs.Doing.{TellsOne}
-use Rattle.cct_live_service.specs.Linked.{AreQuiet}
+use Rattle.cct_live_service.specs.Linked.{IsDecision}
 use Rattle.cct_live_service.specs.Parts.{Acts}
 use Rattle.cct_live_service.specs.Told.{WritesTold, as_told}
 use Rattle.cct_live_service.proofs.Parts.{acts_step, disk_same}
@@ -19,9 +20,9 @@ returns g c =
     let does = TellsOne (live.command c.args.command.now) in
     let alone = c.push.ensures.items ∙ ap (λ es. es ++ told ∷ []) c.clear.ensures in
     record {
-      acts = subst (λ r. Acts sink.written sink.puts sink.faults (Both AreQuiet IsApart) does r c.args.out.now c.write_report.new.out host after)
+      acts = subst (λ r. Acts sink.written sink.puts sink.faults (Both (IsDecision (asked_before c.args.command.now)) IsApart) does r c.args.out.now c.write_report.new.out host after)
           (sym c.by_writing.ensures)
-          (acts_step sink.written sink.puts sink.faults (Both AreQuiet IsApart) c.write_report.result c.args.out.now c.write_report.new.out host
+          (acts_step sink.written sink.puts sink.faults (Both (IsDecision (asked_before c.args.command.now)) IsApart) c.write_report.result c.args.out.now c.write_report.new.out host
           after (live.command c.args.command.now) (as_told (told ∷ [])) c.answer_of.ensures.quiet
           does
           (subst (λ es. WritesTold sink.written sink.puts c.args.out.now (as_told es) c.write_report.result c.write_report.new.out)

@@ -1,5 +1,6 @@
-use Rattle.std.proofs.Common.{Ok, Err, refl}
+use Rattle.std.proofs.Common.{Ok, Err}
 use Rattle.cct_live_service.proofs.Desks.{apart_no, apart_taken}
+use Rattle.cct_live_service.proofs.Linking.{refused_decides, taken_decides}
 use Rattle.cct_live_service.proofs.Parts.{command_goes}
 use Rattle.cct_live_service.proofs.commands.answer_of.Goals as goal
 
@@ -14,7 +15,7 @@ returns-in-Err-clause-lives g c =
     c.in-Err.ensures.setup c.in-Err.ensures.journal c.in-Err.ensures.answers
 
 pub returns-in-Ok-clause-quiet : goal.returns-in-Ok-clause-quiet
-returns-in-Ok-clause-quiet g c = (refl, apart_taken c.args.command.now)
+returns-in-Ok-clause-quiet g c = (taken_decides c.args.command.now, apart_taken c.args.command.now)
 
 pub returns-in-Err-clause-quiet : goal.returns-in-Err-clause-quiet
-returns-in-Err-clause-quiet g c = (refl, apart_no c.args.command.now c.in-Err.why)
+returns-in-Err-clause-quiet g c = (refused_decides c.args.command.now c.in-Err.why, apart_no c.args.command.now c.in-Err.why)

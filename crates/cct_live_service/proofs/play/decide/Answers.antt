@@ -1,13 +1,14 @@
 use Rattle.std.proofs.Common.{subst}
 use Rattle.cct_host.specs.Host.{setup_of}
 use Rattle.cct_live_survey.specs.Finding.{withheld_by}
+use Rattle.cct_live_service.specs.Asked.{asked_before}
 use Rattle.cct_live_service.specs.AtDesk.{Both, IsApart}
 use Rattle.cct_live_service.specs.Doing.{Decides, DoesCommand, Finds, IsAsking}
-use Rattle.cct_live_service.specs.Linked.{AreQuiet, watched}
+use Rattle.cct_live_service.specs.Linked.{IsDecision, UsesLink, watched}
 use Rattle.cct_live_service.specs.Parts.{Acts}
 use Rattle.cct_live_service.proofs.Desks.{apart_then}
 use Rattle.cct_live_service.proofs.Found.{decides_broken, decides_then}
-use Rattle.cct_live_service.proofs.Linking.{roll_quiet, roll_then}
+use Rattle.cct_live_service.proofs.Linking.{roll_decided}
 use Rattle.cct_live_service.proofs.Parts.{acts_front}
 use Rattle.cct_live_service.proofs.play.decide.Goals as goal
 
@@ -18,21 +19,20 @@ returns-in-Ok g c =
     let old = c.args.roll.now.findings in
     let now = c.ask_before.new.roll.findings in
     let said = c.args.command.now in
+    let host = c.args.host.now in
+    let mid = c.ask_before.new.host in
+    let uses = UsesLink g.L.Link.gives link.sent link.failures (setup_of host).devices c.args.roll.now c.ask_before.new.roll
+    (watched c.args.link.now c.args.page.now) (watched c.ask_before.new.link c.ask_before.new.page) in
     record {
-      acts = roll_then sink.written sink.puts sink.faults g.L.Link.gives link.sent link.failures c.args.roll.now c.ask_before.new.roll
-          c.ask_before.new.roll (watched c.args.link.now c.args.page.now) (watched c.ask_before.new.link c.ask_before.new.page) (watched c.ask_before.new.link c.answer_or_withhold.new.page) IsApart IsApart IsApart apart_then
-          c.answer_or_withhold.result
-          c.args.out.now c.ask_before.new.out
-          c.answer_or_withhold.new.out c.args.host.now c.ask_before.new.host c.answer_or_withhold.new.host
-          (Finds old now IsAsking) (DoesCommand said (withheld_by now said)) (Finds old now (Decides old said))
-          (decides_then old now said) c.in-Ok.ensures.acts
-          (roll_quiet sink.written sink.puts sink.faults g.L.Link.gives link.sent link.failures
-          (setup_of c.ask_before.new.host).devices c.ask_before.new.roll c.ask_before.new.link c.ask_before.new.page c.answer_or_withhold.new.page c.answer_or_withhold.ensures.watch IsApart c.answer_or_withhold.result
-          c.ask_before.new.out c.answer_or_withhold.new.out c.ask_before.new.host c.answer_or_withhold.new.host
-          (DoesCommand said (withheld_by now said))
-          (subst (λ f. Acts sink.written sink.puts sink.faults (Both AreQuiet IsApart) (DoesCommand said (withheld_by f said))
-          c.answer_or_withhold.result c.ask_before.new.out c.answer_or_withhold.new.out c.ask_before.new.host
-          c.answer_or_withhold.new.host) c.findings.ensures c.answer_or_withhold.ensures.acts));
+      acts = roll_decided sink.written sink.puts sink.faults g.L.Link.gives link.sent link.failures (asked_before said)
+          c.args.roll.now c.ask_before.new.roll c.args.link.now c.ask_before.new.link c.args.page.now c.ask_before.new.page
+          c.answer_or_withhold.new.page c.ask_before.ensures.watch c.answer_or_withhold.ensures.watch uses IsApart IsApart IsApart
+          apart_then c.answer_or_withhold.result c.args.out.now c.ask_before.new.out c.answer_or_withhold.new.out host mid
+          c.answer_or_withhold.new.host old now (DoesCommand said (withheld_by now said)) (Finds old now (Decides old said))
+          (decides_then old now said) c.in-Ok.ensures.asks c.in-Ok.ensures.acts
+          (subst (λ f. Acts sink.written sink.puts sink.faults (Both (IsDecision (asked_before said)) IsApart) (DoesCommand said (withheld_by f said))
+          c.answer_or_withhold.result c.ask_before.new.out c.answer_or_withhold.new.out mid c.answer_or_withhold.new.host)
+          c.findings.ensures c.answer_or_withhold.ensures.acts);
       asks = c.in-Ok.ensures.asks;
     }
 

@@ -1,10 +1,10 @@
-use Rattle.std.proofs.Common.{◌∷◌, [], ◌∙◌, None, inl, inr, refl, sym, subst}
+use Rattle.std.proofs.Common.{◌∷◌, [], ◌∙◌, None, Some, inl, inr, refl, sym, subst}
 use Rattle.cct_host.specs.Host.{disk_of}
 use Rattle.cct_laws_live.specs.LiveStep as live
 use Rattle.cct_model.specs.lines.entry.Entry.TheVariants as entry_of
 use Rattle.cct_live_service.specs.AtDesk.{Both, FollowsDesk}
 use Rattle.cct_live_service.specs.Doing.{DoesPay}
-use Rattle.cct_live_service.specs.Linked.{AreQuiet}
+use Rattle.cct_live_service.specs.Linked.{IsDecision}
 use Rattle.cct_live_service.specs.Parts.{Acts}
 use Rattle.cct_live_service.specs.Told.{WritesTold, as_told, falls_short, pay_of, pays, refused_for, taken}
 use Rattle.cct_live_service.proofs.Desks.{follows, refused_at_desk, taken_at_desk}
@@ -26,12 +26,12 @@ returns-in-Ok g c =
     record {
       acts = λ old asks.
           let new = c.taken.new.self in
-          let linked = Both AreQuiet (FollowsDesk c.by_writing.result old new) in
+          let linked = Both (IsDecision (Some p.addr)) (FollowsDesk c.by_writing.result old new) in
           subst (λ r. Acts sink.written sink.puts sink.faults linked does r c.args.out.now c.write_report.new.out host after)
           (sym c.by_writing.ensures)
           (acts_step sink.written sink.puts sink.faults linked c.write_report.result c.args.out.now c.write_report.new.out host
           after (live.command (pay_of p)) told
-          (refl, follows c.by_writing.result old new told (taken_at_desk old c.args.desk.now new p asks c.taken.ensures)) does
+          ((pays p taken, [], refl, refl, refl), follows c.by_writing.result old new told (taken_at_desk old c.args.desk.now new p asks c.taken.ensures)) does
           (told_as sink.written sink.puts c.args.out.now c.write_report.new.out (as_told es) told c.write_report.result refl refl
           (subst (λ rs. WritesTold sink.written sink.puts c.args.out.now (as_told rs) c.write_report.result c.write_report.new.out)
           c.report_taken.ensures c.write_report.ensures.writes))
@@ -55,12 +55,18 @@ returns-in-Err g c =
     record {
       acts = λ old asks.
           let new = c.refused-shortfall.new.self in
-          let linked = Both AreQuiet (FollowsDesk c.by_writing-in-Err.result old new) in
+          let linked = Both (IsDecision (Some p.addr)) (FollowsDesk c.by_writing-in-Err.result old new) in
           subst (λ r. Acts sink.written sink.puts sink.faults linked does r c.args.out.now c.write_report-in-Err.new.out host after)
           (sym c.by_writing-in-Err.ensures)
           (acts_step sink.written sink.puts sink.faults linked c.write_report-in-Err.result c.args.out.now c.write_report-in-Err.new.out host
           after (live.command (pay_of p)) told (
-            refl,
+            (
+              pays p (refused_for c.in-Err.why),
+              falls_short p c.refused-shortfall.result.paid c.refused-shortfall.result.rest ∷ [],
+              refl,
+              refl,
+              refl,
+            ),
             follows c.by_writing-in-Err.result old new told (refused_at_desk old c.args.desk.now new p c.in-Err.why
                 c.refused-shortfall.result.paid c.refused-shortfall.result.rest asks c.refused-shortfall.ensures.told
                 c.refused-shortfall.ensures.desk),

@@ -2,7 +2,7 @@ use Rattle.std.proofs.Common.{◌≡◌, ◌∙◌, None, Some, ap, subst, sym}
 use Rattle.cct_live_survey.specs.Finding.{withheld_by}
 use Rattle.cct_live_service.specs.AtDesk.{Both, FollowsDesk}
 use Rattle.cct_live_service.specs.Doing.{DoesPay}
-use Rattle.cct_live_service.specs.Linked.{AreQuiet}
+use Rattle.cct_live_service.specs.Linked.{IsDecision}
 use Rattle.cct_live_service.specs.Parts.{Acts}
 use Rattle.cct_live_service.specs.Told.{pay_of}
 use Rattle.cct_live_service.proofs.session.give_or_withhold.Goals as goal
@@ -16,7 +16,7 @@ returns-in-None g c =
     ap (withheld_by findings) (sym c.command_of.ensures) ∙ sym c.withheld_by.ensures ∙ c.in-None.is in
     record {
       acts = λ old asks. subst (λ why. Acts sink.written sink.puts sink.faults
-          (Both AreQuiet (FollowsDesk c.give.result old c.give.new.desk)) (DoesPay p why) c.give.result c.args.out.now
+          (Both (IsDecision (Some p.addr)) (FollowsDesk c.give.result old c.give.new.desk)) (DoesPay p why) c.give.result c.args.out.now
           c.give.new.out c.args.host.now c.give.new.host) (sym is) (c.give.ensures.acts old asks);
       watch = c.give.ensures.watch;
     }
@@ -30,7 +30,7 @@ returns-in-Some g c =
     ap (withheld_by findings) (sym c.command_of.ensures) ∙ sym c.withheld_by.ensures ∙ c.in-Some.is in
     record {
       acts = λ old asks. subst (λ why. Acts sink.written sink.puts sink.faults
-          (Both AreQuiet (FollowsDesk c.withhold.result old c.withhold.new.desk)) (DoesPay p why) c.withhold.result c.args.out.now
+          (Both (IsDecision (Some p.addr)) (FollowsDesk c.withhold.result old c.withhold.new.desk)) (DoesPay p why) c.withhold.result c.args.out.now
           c.withhold.new.out c.args.host.now c.withhold.new.host) (sym is) (c.withhold.ensures.acts old asks);
       watch = c.withhold.ensures.watch;
     }

@@ -2,7 +2,7 @@ use Rattle.std.proofs.Common.{◌∷◌, [], Some, ap, refl, subst, sym}
 use Rattle.cct_live_service.specs.declared.notice.Notice.TheVariants as notice_of
 use Rattle.cct_live_service.specs.AtDesk.{Both, FollowsDesk}
 use Rattle.cct_live_service.specs.Doing.{DoesPay}
-use Rattle.cct_live_service.specs.Linked.{AreQuiet}
+use Rattle.cct_live_service.specs.Linked.{IsDecision}
 use Rattle.cct_live_service.specs.Parts.{Acts}
 use Rattle.cct_live_service.specs.Told.{falls_short, pays, withheld_for}
 use Rattle.cct_live_service.proofs.Desks.{follows, withheld_at_desk}
@@ -22,11 +22,11 @@ returns g c =
     record {
       acts = λ old asks.
           let new = c.refused-shortfall.new.self in
-          let linked = Both AreQuiet (FollowsDesk c.by_writing.result old new) in
+          let linked = Both (IsDecision (Some p.addr)) (FollowsDesk c.by_writing.result old new) in
           subst (λ r. Acts sink.written sink.puts sink.faults linked does r c.args.out.now c.tell_then.new.out host host)
           (sym c.by_writing.ensures)
           (acts_told sink.written sink.puts sink.faults linked c.tell_then.result c.args.out.now c.tell_then.new.out host told (
-            refl,
+            (pays p (withheld_for why), falls_short p short.paid short.rest ∷ [], refl, refl, refl),
             follows c.by_writing.result old new told (withheld_at_desk old c.args.desk.now new p why short.paid short.rest asks
                 c.refused-shortfall.ensures.told c.refused-shortfall.ensures.desk),
           ) does refl (λ past keeps. tt)
