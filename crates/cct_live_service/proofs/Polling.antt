@@ -16,7 +16,7 @@ use Rattle.cct_live_service.specs.declared.served.Served.{Served}
 use Rattle.cct_live_service.specs.declared.visit.TheConstants.{MOST_ROUNDS}
 use Rattle.cct_live_service.specs.declared.visit.Task.{Task}
 use Rattle.cct_live_service.specs.declared.visit.Task.TheVariants as task
-use Rattle.cct_live_service.specs.Doing.{AreDistinct, AreVisits, BeginsRound, DoesTask, EndsAs, EndsRound, Finds, FrontOf, GoesOnTo, IsAsking, IsLastRound, IsMovedRound, IsNothing, IsPoll, IsRound, IsVisit, ReadsOut, TellsOne, Then, ThenBy, Times, VisitsLast, VisitsOthers, VisitsTurn, VisitsUnless}
+use Rattle.cct_live_service.specs.Doing.{AreVisits, BeginsRound, DoesTask, EndsAs, EndsRound, Finds, FrontOf, GoesOnTo, IsAsking, IsLastRound, IsMovedRound, IsNothing, IsPoll, IsRound, IsVisit, ReadsOut, Rise, TellsOne, Then, ThenBy, Times, VisitsLast, VisitsOthers, VisitsTurn, VisitsUnless}
 use Rattle.cct_live_service.specs.Ends.{is_moved, tells_moved}
 use Rattle.cct_live_service.specs.Known.{Tasks}
 use Rattle.cct_live_service.specs.Told.{Told, findings_in}
@@ -292,7 +292,7 @@ last_finds Has turn findings = finds_none findings (VisitsTurn Has turn) (turn_f
 pub others_find : (has : Tasks) (turn : Option ℕ) (findings : List Finding) (steps : List LiveStep) (told : List Told) →
     VisitsOthers has turn steps told → Finds findings findings (VisitsOthers has turn) steps told
 others_find has turn findings =
-    finds_none findings (VisitsOthers has turn) (λ steps told h. visits_find has h.0 steps told h.2)
+    finds_none findings (VisitsOthers has turn) (λ steps told h. visits_find has h.1 steps told h.4)
 
 -- no visit
 pub none_at : (Has : ℕ → Task → Type 0) (turn : Option ℕ) → VisitsTurn Has turn [] []
@@ -351,75 +351,56 @@ polls_alone has turn findings steps told h =
 pub poll_none : (has : Tasks) → IsPoll has [] []
 poll_none has = (
   None,
-  then_by (VisitsOthers has None) (λ said. VisitsLast (λ more. has (said ++ more)) None) [] [] [] [] ([], tt, (refl, refl))
+  then_by (VisitsOthers has None) (λ said. VisitsLast (λ more. has (said ++ more)) None) [] [] [] [] (0, [], tt, All-nil (λ addr. None ≢ Some addr), (refl, refl))
       (last_none has None),
 )
-
--- An address comes before the next ones, in rising order from the first one.
-abbrev pub IsBehind : ℕ → ℕ → ℕ → Type 0
-IsBehind first step addr = (other : ℕ) → step ≤ other → other < 256 → (first + other) % 256 ≢ addr
 
 -- What is visited of the first so many addresses from the first one, without the one that has its turn later.
 pub record SoFar (has : Tasks) (first step : ℕ) (turn : Option ℕ) (steps : List LiveStep) (told : List Told) : Type 0 where
   visited : List ℕ
-  distinct : AreDistinct visited
+  few : step ≤ 256
+  rise : Rise first step visited
   others : All (λ addr. turn ≢ Some addr) visited
-  behind : All (IsBehind first step) visited
   visits : AreVisits has visited steps told
 
 pub far_none : (has : Tasks) (first : ℕ) (turn : Option ℕ) → SoFar has first 0 turn [] []
 far_none has first turn = record {
   visited = [];
-  distinct = tt;
+  few = omega arith;
+  rise = tt;
   others = All-nil (λ addr. turn ≢ Some addr);
-  behind = All-nil (IsBehind first 0);
   visits = (refl, refl);
 }
 
-behind_next : (first step addr : ℕ) → IsBehind first step addr → IsBehind first (step + 1) addr
-behind_next first step addr h other le = h other (less step other le)
+rise_weaker : (first n m : ℕ) → n ≤ m → (visited : List ℕ) → Rise first n visited → Rise first m visited
+rise_weaker first n m le [] h = tt
+rise_weaker first n m le (addr ∷ before) h = (h.0, less h.0 h.1, h.2, h.3)
   where
-    less : (n m : ℕ) → n + 1 ≤ m → n ≤ m
-    less n m is = omega (arith, is)
+    less : (place : ℕ) → place < n → place < m
+    less place is = omega (arith, le, is)
 
-behind_this : (first step : ℕ) → step < 256 → IsBehind first (step + 1) ((first + step) % 256)
-behind_this first step few other le less same = omega (arith, few, le, less, same)
+one_behind : (n : ℕ) → n < n + 1
+one_behind n = omega arith
 
 pub far_more : (has : Tasks) (first step addr : ℕ) → step < 256 → addr ≡ (first + step) % 256 → (turn : Option ℕ)
     (s1 s2 : List LiveStep) (t1 t2 : List Told) → SoFar has first step turn s1 t1 →
     VisitsUnless (has t1) turn addr s2 t2 → SoFar has first (step + 1) turn (s1 ++ s2) (t1 ++ t2)
 far_more has first step addr few is turn s1 s2 t1 t2 h (inl none) = record {
   visited = h.visited;
-  distinct = h.distinct;
+  few = omega (arith, few);
+  rise = rise_weaker first step (step + 1) (omega arith) h.visited h.rise;
   others = h.others;
-  behind = All-weaker (IsBehind first step) (IsBehind first (step + 1)) (behind_next first step) h.visited h.behind;
   visits = nothing_after (AreVisits has h.visited) s1 s2 t1 t2 none.0 none.1 h.visits;
 }
 far_more has first step addr few is turn s1 s2 t1 t2 h (inr (visit, other)) = record {
   visited = addr ∷ h.visited;
-  distinct = (
-    All-weaker (IsBehind first step) (λ before. addr ≢ before)
-        (λ before k same. k step (itself step) few (sym is ∙ same)) h.visited h.behind,
-    h.distinct,
-  );
+  few = omega (arith, few);
+  rise = (step, one_behind step, is, h.rise);
   others = All-cons (λ a. turn ≢ Some a) addr h.visited other h.others;
-  behind = All-cons (IsBehind first (step + 1)) addr h.visited
-      (subst (IsBehind first (step + 1)) (sym is) (behind_this first step few))
-      (All-weaker (IsBehind first step) (IsBehind first (step + 1)) (behind_next first step) h.visited h.behind);
   visits = then_by (AreVisits has h.visited) (λ said. IsVisit (has said) addr) s1 s2 t1 t2 h.visits visit;
 }
-  where
-    itself : (n : ℕ) → n ≤ n
-    itself n = omega arith
 
 pub far_all : (has : Tasks) (first step : ℕ) (turn : Option ℕ) (steps : List LiveStep) (told : List Told) →
     SoFar has first step turn steps told → VisitsOthers has turn steps told
-far_all has first step turn steps told h = (h.visited, distinct turn h.others, h.visits)
-  where
-    distinct : (at : Option ℕ) → All (λ addr. at ≢ Some addr) h.visited → AreDistinct (option_to_list at ++ h.visited)
-    distinct None others = h.distinct
-    distinct (Some addr) others = (
-      All-weaker (λ before. Some addr ≢ Some before) (λ before. addr ≢ before) (λ before k same. k (ap (λ n. Some n) same))
-          h.visited others,
-      h.distinct,
-    )
+far_all has first step turn steps told h =
+    (first, h.visited, rise_weaker first step 256 h.few h.visited h.rise, h.others, h.visits)

@@ -72,7 +72,7 @@ poll_weaker A B to steps told (turn, h) = (
     added = h.added;
     steps_are = h.steps_are;
     told_is = h.told_is;
-    first = (h.first.0, h.first.1, visits_weaker A B to h.first.0 h.before h.said h.first.2);
+    first = (h.first.0, h.first.1, h.first.2, h.first.3, visits_weaker A B to h.first.1 h.before h.said h.first.4);
     next = last_weaker (λ more. A (h.said ++ more)) (λ more. B (h.said ++ more)) (λ more. to (h.said ++ more)) turn h.after
         h.added h.next;
   },

@@ -1,8 +1,7 @@
 -- What a host does for each line of its input, and what is reported of it.
-use Rattle.std.specs.Prelude.{◌≡◌, ◌≢◌, ◌≤◌, ◌⊎◌, ℕ, zero, suc, Bool, true, false, List, [], ◌∷◌, ◌++◌}
-use Rattle.std.specs.Prelude.{length, Option, Some, None, OnOk, Result, Ok, Err, ⊤}
+use Rattle.std.specs.Prelude.{◌≡◌, ◌≢◌, ◌≤◌, ◌<◌, ◌+◌, ◌%◌, ◌⊎◌, ℕ, zero, suc, Bool, true, false, List, []}
+use Rattle.std.specs.Prelude.{◌∷◌, ◌++◌, length, Option, Some, None, OnOk, Result, Ok, Err, ⊤}
 use Rattle.std.specs.List.{All, list_any}
-use Rattle.std.specs.Option.{option_to_list}
 use Rattle.cct_model.specs.lines.command.Command.{Command}
 use Rattle.cct_model.specs.lines.command.Command.TheVariants as command
 use Rattle.cct_model.specs.lines.command.CommandNo.{CommandNo}
@@ -184,16 +183,19 @@ IsFound findings steps told = (steps ≡ []) × (told ≡ found_told findings)
 abbrev pub IsAsking : List LiveStep → List Told → Type 0
 IsAsking steps told = (findings : List Finding) × IsFound findings steps told
 
--- None of these addresses comes twice.
-abbrev pub AreDistinct : List ℕ → Type 0
-AreDistinct [] = ⊤
-AreDistinct (addr ∷ before) = All (λ other. addr ≢ other) before × AreDistinct before
+-- These addresses, newest first, come in rising order from the first one on, at so many places:
+-- each once. After 255 comes 0.
+abbrev pub Rise : ℕ → ℕ → List ℕ → Type 0
+Rise first places [] = ⊤
+Rise first places (addr ∷ before) =
+    (place : ℕ) × (place < places) × (addr ≡ (first + place) % 256) × Rise first place before
 
--- The devices at other addresses than this one are visited, none of them twice.
+-- The devices at other addresses than this one are visited in rising order from one on, none of
+-- them twice.
 abbrev pub VisitsOthers : Tasks → Option ℕ → List LiveStep → List Told → Type 0
 VisitsOthers has turn steps told =
-    (visited : List ℕ) × AreDistinct (option_to_list turn ++ visited)
-    × AreVisits has visited steps told
+    (first : ℕ) × (visited : List ℕ) × Rise first 256 visited
+    × All (λ addr. turn ≢ Some addr) visited × AreVisits has visited steps told
 
 -- This one is visited, if there is one, or it isn't.
 abbrev pub VisitsTurn : (ℕ → Task → Type 0) → Option ℕ → List LiveStep → List Told → Type 0
@@ -206,7 +208,7 @@ VisitsLast has turn steps told =
     ThenBy IsAsking (λ said. VisitsTurn (has said) turn) steps told
     ⊎ Then (VisitsTurn (has []) turn) IsAsking steps told
 
--- What a poll does: it visits devices, none of them twice, and reports findings.
+-- What a poll does: it visits devices in rising order, none of them twice, and reports findings.
 abbrev pub IsPoll : Tasks → List LiveStep → List Told → Type 0
 IsPoll has steps told =
     (turn : Option ℕ)
