@@ -1,12 +1,11 @@
 -- What is done for a line, made of its parts.
-use Rattle.std.proofs.Common.{◌≡◌, ◌≤◌, ◌+◌, ◌∙◌, ◌⊎◌, ℕ, zero, suc, List, [], ◌∷◌, ◌++◌, length, Bool, true, false, Ok, Err, ◌==◌, ◌||◌, refl, eqb-true, sym, ap, subst, inl, inr, append_assoc, arith}
+use Rattle.std.proofs.Common.{◌≡◌, ◌≤◌, ◌+◌, ◌∙◌, ◌⊎◌, ℕ, zero, suc, List, [], ◌∷◌, ◌++◌, length, Bool, true, false, Ok, Err, ◌==◌, ◌||◌, refl, eqb-true, sym, ap, subst, inl, inr, arith}
 use Rattle.std.specs.List.{list_any}
 use Rattle.std.proofs.lemmas.Bool.Decides.{nat_tests}
 use Rattle.std.proofs.lemmas.List.{append-nil}
 use Rattle.std.proofs.lemmas.List.Elements.{All-nil}
 use Rattle.cct_model.specs.terms.device.DeviceSetup.{DeviceSetup}
 use Rattle.cct_model.specs.terms.device.Setup.{Setup}
-use Rattle.cct_model.specs.lines.command.Command.{Command}
 use Rattle.cct_model.specs.lines.entry.Entry.{Entry}
 use Rattle.cct_model.specs.lines.entry.Entry.TheVariants as entry_of
 use Rattle.cct_laws_live.specs.LiveStep.{LiveStep}
@@ -23,7 +22,7 @@ use Rattle.cct_live_service.specs.declared.stopping.AtEnd.TheVariants as at_end
 use Rattle.cct_live_service.specs.declared.input.InputLine.TheVariants as input
 use Rattle.cct_live_service.specs.declared.notice.Notice.{Notice}
 use Rattle.cct_live_service.specs.Watch.{IsOfWatch}
-use Rattle.cct_live_service.specs.Doing.{Does, DoesKnown, DoesLine, DoesLines, EndsAs, FrontOf, GoesOn, IsAttempt, IsAttemptWith, IsLastTry, IsStating, MakesAttempts, PlaysLines, ServesLines, ServesOn, Tells, TellsOne, Then, ThenBy, Times, is_known}
+use Rattle.cct_live_service.specs.Doing.{Does, DoesKnown, DoesLine, DoesLines, EndsAs, FrontOf, GoesOn, IsAttempt, IsAttemptWith, IsLastTry, IsStating, MakesAttempts, PlaysLines, ServesLines, ServesOn, Tells, Then, ThenBy, Times, is_known}
 use Rattle.cct_live_service.specs.Ends.{IsOfEnd, is_end, is_moved, is_unanswered, tells_end, tells_some}
 use Rattle.cct_live_service.specs.Known.{Knows, Rests, Tasks, tasks_by}
 use Rattle.cct_live_service.specs.Said.{Said}

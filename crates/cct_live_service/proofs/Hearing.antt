@@ -1,5 +1,5 @@
 -- Lemmas on what the program around a service hears.
-use Rattle.std.proofs.Common.{◌≡◌, ℕ, suc, List, [], ◌∷◌, ◌++◌, length, Ok, Err, Result, refl, sym, subst, append_assoc}
+use Rattle.std.proofs.Common.{◌≡◌, ℕ, suc, List, ◌∷◌, ◌++◌, length, Ok, Err, refl, sym, subst, append_assoc}
 use Rattle.cct_model.specs.terms.device.DeviceSetup.{DeviceSetup}
 use Rattle.cct_script.specs.declared.live.LiveLine.TheVariants as says
 use Rattle.cct_live_service.specs.declared.input.InputLine.TheVariants as input

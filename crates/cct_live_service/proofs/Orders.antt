@@ -1,7 +1,6 @@
 -- What is reported of an order, by the records of a journal that was read beside its host.
 use Rattle.std.proofs.Common.{◌≡◌, ◌≢◌, ◌∙◌, ◌⊎◌, ℕ, ◌==◌, List, [], ◌∷◌, Bool, true, false, cond, reverse, Option, Some, None, is_some, inl, inr, refl, sym, ap, subst}
 use Rattle.cct_disk.specs.declared.disk.Disk.{Ghosts}
-use Rattle.cct_disk.specs.Disk.{IsTrusted}
 use Rattle.cct_model.specs.terms.device.DeviceSetup.{DeviceSetup}
 use Rattle.cct_model.specs.terms.device.Setup.{Setup}
 use Rattle.cct_model.specs.declared.judging.OpenOrder.{OpenOrder}
@@ -10,7 +9,7 @@ use Rattle.cct_model.specs.lines.record.Record.TheVariants as record_of
 use Rattle.cct_model.specs.lines.entry.Entry.{Entry}
 use Rattle.cct_model.specs.Order.{life_between}
 use Rattle.cct_host.specs.declared.host.Host.{Host}
-use Rattle.cct_host.specs.Host.{Keeps, StandsFor, disk_of, setup_of}
+use Rattle.cct_host.specs.Host.{Keeps, disk_of, setup_of}
 use Rattle.cct_host.specs.Standing.{order_at}
 use Rattle.cct_live_order.specs.Told.{order_in, told_after}
 use Rattle.cct_live_order.specs.declared.told.OrderTold.{OrderTold}

@@ -1,11 +1,10 @@
 -- What a poll does, made of its visits.
-use Rattle.std.proofs.Common.{◌≡◌, ◌≢◌, ◌≤◌, ◌<◌, ◌+◌, ◌%◌, ◌∙◌, ◌⊎◌, ◌==◌, ℕ, zero, suc, List, [], ◌∷◌, ◌++◌, Bool, true, false, Option, Some, None, Result, Ok, Err, refl, sym, ap, subst, inl, inr, eqb-true, append_assoc, arith}
+use Rattle.std.proofs.Common.{◌≡◌, ◌≢◌, ◌≤◌, ◌<◌, ◌+◌, ◌%◌, ◌∙◌, ◌⊎◌, ◌==◌, ℕ, zero, suc, List, [], ◌∷◌, ◌++◌, Bool, true, false, Option, Some, None, Ok, Err, refl, sym, ap, subst, inl, inr, eqb-true, arith}
 use Rattle.std.specs.Prelude.{⊤}
 use Rattle.std.specs.List.{All, list_any}
-use Rattle.std.specs.Option.{option_to_list}
 use Rattle.std.proofs.lemmas.Bool.Decides.{nat_tests}
 use Rattle.std.proofs.lemmas.List.{append-nil}
-use Rattle.std.proofs.lemmas.List.Elements.{All-cons, All-nil, All-weaker}
+use Rattle.std.proofs.lemmas.List.Elements.{All-cons, All-nil}
 use Rattle.cct_model.specs.lines.command.Command.TheVariants as command
 use Rattle.cct_model.specs.lines.entry.Entry.{Entry}
 use Rattle.cct_laws_live.specs.LiveStep.{LiveStep}
@@ -16,13 +15,12 @@ use Rattle.cct_live_service.specs.declared.served.Served.{Served}
 use Rattle.cct_live_service.specs.declared.visit.TheConstants.{MOST_ROUNDS}
 use Rattle.cct_live_service.specs.declared.visit.Task.{Task}
 use Rattle.cct_live_service.specs.declared.visit.Task.TheVariants as task
-use Rattle.cct_live_service.specs.Doing.{AreVisits, BeginsRound, DoesTask, EndsAs, EndsRound, Finds, FrontOf, GoesOnTo, IsAsking, IsLastRound, IsMovedRound, IsNothing, IsPoll, IsRound, IsVisit, ReadsOut, Rise, TellsOne, Then, ThenBy, Times, VisitsLast, VisitsOthers, VisitsTurn, VisitsUnless}
+use Rattle.cct_live_service.specs.Doing.{AreVisits, BeginsRound, DoesTask, EndsAs, EndsRound, Finds, GoesOnTo, IsAsking, IsLastRound, IsMovedRound, IsPoll, IsRound, IsVisit, ReadsOut, Rise, Then, ThenBy, Times, VisitsLast, VisitsOthers, VisitsTurn, VisitsUnless}
 use Rattle.cct_live_service.specs.Ends.{is_moved, tells_moved}
 use Rattle.cct_live_service.specs.Known.{Tasks}
 use Rattle.cct_live_service.specs.Told.{Told, findings_in}
 use Rattle.cct_live_service.proofs.Doings.{moved_ends, nothing_after, then_by, then_one, times_more}
 use Rattle.cct_live_service.proofs.Found.{attempt_finds, attempts_find, finds_none, finds_weaker, found_then, one_finds, times_find}
-use Rattle.cct_live_service.proofs.Parts.{front_whole}
 
 -- one thing, and nothing after it
 pub then_nothing : (P Q : List LiveStep → List Told → Type 0) → Q [] [] → (steps : List LiveStep) (told : List Told) →

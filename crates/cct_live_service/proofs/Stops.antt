@@ -14,7 +14,6 @@ use Rattle.cct_host.specs.Host.{setup_of}
 use Rattle.cct_laws_live.specs.LiveStep.{LiveStep}
 use Rattle.cct_laws_live.specs.LiveStep as live
 use Rattle.cct_live_survey.specs.declared.finding.Finding.{Finding}
-use Rattle.cct_live_service.specs.declared.attempts.TheConstants.{MOST_ATTEMPTS}
 use Rattle.cct_live_service.specs.declared.attempts.Until.{Until}
 use Rattle.cct_live_service.specs.declared.attempts.Until.TheVariants as until_of
 use Rattle.cct_live_service.specs.declared.notice.Notice.{Notice}

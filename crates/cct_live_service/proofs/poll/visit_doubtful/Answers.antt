@@ -1,4 +1,4 @@
-use Rattle.std.proofs.Common.{Some, sym}
+use Rattle.std.proofs.Common.{Some}
 use Rattle.cct_live_service.specs.Doing.{VisitsTurn}
 use Rattle.cct_live_service.specs.Known.{TaskNow}
 use Rattle.cct_live_service.specs.Linked.{watched}
