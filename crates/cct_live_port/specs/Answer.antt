@@ -27,6 +27,11 @@ answered_under kind sent heard = replies (message kind sent) (message_after kind
 abbrev pub answered : List ℕ → List ℕ → Bool
 answered sent heard = answered_under Simple sent heard || answered_under Crc sent heard
 
+-- Under the check that is known, or under either where none is.
+abbrev pub answered_by : Option CheckKind → List ℕ → List ℕ → Bool
+answered_by (Some kind) sent heard = answered_under kind sent heard
+answered_by None sent heard = answered sent heard
+
 -- Bytes are for all devices.
 abbrev pub is_to_all : List ℕ → Bool
 is_to_all [] = false

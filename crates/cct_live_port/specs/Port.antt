@@ -3,11 +3,12 @@ use Rattle.std.specs.Prelude.{◌≡◌, ◌⊎◌, ℕ, ◌≤◌, Bool, true, 
 use Rattle.std.specs.Prelude.{length, if◌then◌else◌, ◌∷◌, Some, None, is_some}
 use Rattle.cct_edge.specs.declared.fault.Failed.{Failed}
 use Rattle.cct_edge.specs.Faults.{next_count}
+use Rattle.cct_model_wire.specs.declared.wire.CheckKind.{CheckKind}
 use Rattle.cct_model_wire.specs.declared.wire.TheConstants.{MOST_HEARD}
 use Rattle.cct_model_wire.specs.Exchange.{after_echo}
 use Rattle.cct_live_port.specs.declared.port.Options.{Options}
 use Rattle.cct_live_port.specs.declared.port.Port.{Port}
-use Rattle.cct_live_port.specs.Answer.{answered, is_to_all}
+use Rattle.cct_live_port.specs.Answer.{answered_by, is_to_all}
 use Rattle.cct_live_port.specs.Calls.{Converses, FailsAt}
 
 -- The line of a port.
@@ -63,14 +64,15 @@ pub record GaveUp {L : Type 0} (before : Port L) (is_sent : Bool) (heard : List 
 module _ {L : Type 0} (reads : L → Option (List ℕ) → L → Type 0)
     (writes : L → List ℕ → Result (Unit {0}) Failed → L → Type 0) where
   -- An exchange went through: the line was silent for so long, then these bytes were sent, and what
-  -- came since is heard. Only the whole reply settles the port. It keeps how many of the last reads
-  -- were silent.
+  -- came since is heard. Only the whole reply settles the port, under the check that is known, or
+  -- under either where none is. It keeps how many of the last reads were silent.
   pub record Hears (old : Port L) (sent heard : List ℕ) (new : Port L) : Type 0 where
     pub bytes : List ℕ
     pub calls : Converses reads writes (silent_of old) (wanted old) (patience old sent) sent
         (echo_of old.options.echoes sent) (line_of old) bytes (silent_of new) (line_of new)
     pub hears : heard ≡ echo_of old.options.echoes sent ++ bytes
-    pub settles : settled new ≡ answered sent heard
+    pub known : Option CheckKind
+    pub settles : settled new ≡ answered_by known sent heard
     pub sent_whole : was_sent new ≡ true
     pub no_fault : faults_of new ≡ faults_of old
 

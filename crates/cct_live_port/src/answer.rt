@@ -1,6 +1,6 @@
 // Whether what was heard is the whole reply to what was sent.
 ghost use Rattle.std.specs.Prelude.{◌≡◌, ◌+◌};
-ghost use Rattle.cct_live_port.specs.Answer.{answered, answered_under, is_complete, is_reply};
+ghost use Rattle.cct_live_port.specs.Answer.{answered_by, answered_under, is_complete, is_reply};
 ghost use Rattle.cct_live_port.specs.Answer.{is_to_all};
 ghost use Rattle.cct_frame.specs.Frame.{message_of};
 
@@ -8,16 +8,9 @@ use cct_frame::{FrameView, read};
 use cct_model_wire::{BROADCAST, CheckKind, HOST};
 use cct_wire::{Heard, hear};
 
-/// Whether what follows the echo is a message of whom the bytes were sent to, under their own
-/// check.
-pub fn is_answered(sent: &[u8], heard: &[u8]) -> bool
-    ensures { result ≡ answered sent.now heard.now }
-{
-    is_answered_under(CheckKind::Simple, sent, heard)
-        || is_answered_under(CheckKind::Crc, sent, heard)
-}
-
-fn is_answered_under(kind: CheckKind, sent: &[u8], heard: &[u8]) -> bool
+/// Whether what follows the echo is a message of whom the bytes were sent to, and both are messages
+/// under this check.
+pub fn is_answered(kind: CheckKind, sent: &[u8], heard: &[u8]) -> bool
     ensures { result ≡ answered_under kind sent.now heard.now }
 {
     match read(kind, sent) {
@@ -28,6 +21,19 @@ fn is_answered_under(kind: CheckKind, sent: &[u8], heard: &[u8]) -> bool
             Heard::Broken(_) => false,
         },
         Err(_) => false,
+    }
+}
+
+/// Whether what follows the echo is a message of whom the bytes were sent to, under the check that
+/// is known, or under either where none is.
+pub(crate) fn is_answered_by(known: Option<CheckKind>, sent: &[u8], heard: &[u8]) -> bool
+    ensures { result ≡ answered_by known sent.now heard.now }
+{
+    match known {
+        Some(kind) => is_answered(kind, sent, heard),
+        None => {
+            is_answered(CheckKind::Simple, sent, heard) || is_answered(CheckKind::Crc, sent, heard)
+        }
     }
 }
 

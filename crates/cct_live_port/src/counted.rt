@@ -1,6 +1,7 @@
 //! A link that says how its last exchange went, and how often it failed.
-ghost use Rattle.std.specs.Prelude.{◌≡◌, ◌≤◌, ℕ, Bool, false, List, [], length};
-ghost use Rattle.cct_live_port.specs.Answer.{answered as is_whole_reply};
+ghost use Rattle.std.specs.Prelude.{◌≡◌, ◌≤◌, ℕ, Bool, false, List, [], Option, length};
+ghost use Rattle.cct_live_port.specs.Answer.{answered_by as is_whole_reply};
+ghost use Rattle.cct_model_wire.specs.declared.wire.CheckKind.{CheckKind};
 ghost use Rattle.cct_model_wire.specs.declared.wire.TheConstants.{MOST_HEARD};
 
 use crate::{Line, Port};
@@ -41,9 +42,10 @@ pub trait CountedLink: Link {
     ghost unsent: { (old : Self) (message heard : List ℕ) (new : Self) → Self.gives old message heard new
         → Self.sent new ≡ false → heard ≡ [] };
 
-    /// An exchange is answered exactly if what is heard is the whole reply.
+    /// An exchange is answered exactly if what is heard is the whole reply, under the check that was
+    /// known for it, or under either where none was.
     ghost replied: { (old : Self) (message heard : List ℕ) (new : Self) → Self.gives old message heard new
-        → Self.answered new ≡ is_whole_reply message heard };
+        → (known : Option CheckKind) × (Self.answered new ≡ is_whole_reply known message heard) };
 }
 
 impl<L: Line> CountedLink for Port<L> {

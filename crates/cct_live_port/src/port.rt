@@ -5,11 +5,11 @@ ghost use Rattle.cct_model_wire.specs.declared.wire.TheConstants.{MOST_SENT};
 ghost use Rattle.cct_live_port.specs.Port.{echo_in, echo_of};
 
 use crate::Line;
-use crate::answer::{is_answered, is_to_all};
+use crate::answer::{is_answered_by, is_to_all};
 use crate::calls::{listen, send};
 use arrayvec::ArrayVec;
 use cct_edge::Failed;
-use cct_model_wire::MOST_HEARD;
+use cct_model_wire::{CheckKind, MOST_HEARD};
 use cct_wire::{Link, bare_after_echo};
 
 /// An address poll by the host, under the simple check.
@@ -109,7 +109,7 @@ impl<L: Line> Port<L> {
         let told = self.options.echoes;
         let mut heard = ArrayVec::new();
         self.options.echoes = true;
-        self.exchange(&ADDRESS_POLL, &mut heard);
+        self.exchange_under(CheckKind::Simple, &ADDRESS_POLL, &mut heard);
         let found = echo_in(heard.as_slice());
         self.options.echoes = found.unwrap_or(told);
         found
@@ -168,7 +168,39 @@ fn begin(echoes: bool, sent: &[u8], heard: &mut ArrayVec<u8, MOST_HEARD>)
 }
 
 impl<L: Line> Port<L> {
-    ghost use Rattle.cct_live_port.specs.Port.{GaveUp};
+    ghost use Rattle.cct_live_port.specs.Answer.{answered_by};
+    ghost use Rattle.cct_live_port.specs.Port.{GaveUp, Gives, settled};
+
+    /// An exchange whose reply is under the check that is known, or under either where none is.
+    fn converse(
+        &mut self,
+        known: Option<CheckKind>,
+        sent: &[u8],
+        heard: &mut ArrayVec<u8, MOST_HEARD>,
+    )
+        requires { length sent.now ≤ MOST_SENT }
+        ensures gives { Gives L.reads L.writes self.old sent.now heard.new.items self.new }
+        ensures settles { settled self.new ≡ answered_by known sent.now heard.new.items }
+    {
+        let wanted = self.wanted();
+        let patience = self.patience(sent);
+        begin(self.options.echoes, sent, heard);
+        match send(&mut self.line, self.silent, wanted, sent) {
+            Ok(()) => {}
+            Err(Failed) => {
+                self.give_up(false, heard);
+                return;
+            }
+        }
+        match listen(&mut self.line, patience, sent, heard) {
+            Ok(silent) => {
+                self.settled = is_answered_by(known, sent, heard.as_slice());
+                self.silent = silent;
+                self.is_sent = true;
+            }
+            Err(Failed) => self.give_up(true, heard),
+        }
+    }
 
     /// An exchange has failed, and all of its message was written or not: nothing is heard, and the
     /// next one waits as long as the first.
@@ -184,28 +216,29 @@ impl<L: Line> Port<L> {
 }
 
 impl<L: Line> Link for Port<L> {
-    ghost use Rattle.cct_live_port.specs.Port.{Gives};
+    ghost use Rattle.cct_live_port.specs.Answer.{answered, answered_under};
+    ghost use Rattle.cct_live_port.specs.Port.{Gives, settled};
 
     ghost gives = { Gives L.reads L.writes };
 
-    fn exchange(&mut self, sent: &[u8], heard: &mut ArrayVec<u8, MOST_HEARD>) {
-        let wanted = self.wanted();
-        let patience = self.patience(sent);
-        begin(self.options.echoes, sent, heard);
-        match send(&mut self.line, self.silent, wanted, sent) {
-            Ok(()) => {}
-            Err(Failed) => {
-                self.give_up(false, heard);
-                return;
-            }
-        }
-        match listen(&mut self.line, patience, sent, heard) {
-            Ok(silent) => {
-                self.settled = is_answered(sent, heard.as_slice());
-                self.silent = silent;
-                self.is_sent = true;
-            }
-            Err(Failed) => self.give_up(true, heard),
-        }
+    fn exchange(&mut self, sent: &[u8], heard: &mut ArrayVec<u8, MOST_HEARD>)
+        requires { length sent.now ≤ MOST_SENT }
+        ensures gives { Gives L.reads L.writes self.old sent.now heard.new.items self.new }
+        ensures settles { settled self.new ≡ answered sent.now heard.new.items }
+    {
+        self.converse(None, sent, heard);
+    }
+
+    fn exchange_under(
+        &mut self,
+        kind: CheckKind,
+        sent: &[u8],
+        heard: &mut ArrayVec<u8, MOST_HEARD>,
+    )
+        requires { length sent.now ≤ MOST_SENT }
+        ensures gives { Gives L.reads L.writes self.old sent.now heard.new.items self.new }
+        ensures settles { settled self.new ≡ answered_under kind sent.now heard.new.items }
+    {
+        self.converse(Some(kind), sent, heard);
     }
 }
