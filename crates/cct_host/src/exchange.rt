@@ -95,7 +95,7 @@ fn talk<L: Link>(job: &mut Job, link: &mut L, sent: &mut Sent, heard: &mut Piece
         &sending.request,
         sent.as_array_mut(),
     );
-    link.exchange(sent.as_slice(), heard.as_array_mut());
+    link.exchange_under(sending.kind, sent.as_slice(), heard.as_array_mut());
     job.hear(sent.as_slice(), heard.as_slice());
 }
 

@@ -1,9 +1,11 @@
 -- Silence makes a line prompt.
-use Rattle.std.proofs.Common.{◌≡◌, ◌⊎◌, inl, inr, ℕ, ◌<◌, ◌≤◌, Bool, true, false, List, [], ◌∷◌, ◌++◌, refl, sym, ap, ◌∙◌, subst, Option, Result, arith, append_assoc, true≢false}
+use Rattle.std.proofs.Common.{◌≡◌, ◌⊎◌, inl, inr, ℕ, ◌<◌, ◌≤◌, Bool, true, false, List, [], ◌∷◌, ◌++◌, refl, sym, ap, ◌∙◌, subst, ◌||◌, Option, Some, None, Result, arith, append_assoc, true≢false}
 use Rattle.std.specs.Prelude.{if◌then◌else◌}
 use Rattle.cct_edge.specs.declared.fault.Failed.{Failed}
+use Rattle.cct_model.specs.terms.wire.CheckKind.{CheckKind}
+use Rattle.cct_model.specs.terms.wire.CheckKind.TheVariants.{Simple, Crc}
 use Rattle.cct_live_port.specs.declared.port.Port.{Port}
-use Rattle.cct_live_port.specs.Answer.{answered}
+use Rattle.cct_live_port.specs.Answer.{answered, answered_by, answered_under}
 use Rattle.cct_live_port.specs.Calls.{Hearing, unread, paused, brought, is_noisy, goes_on, Waits}
 use Rattle.cct_live_port.specs.Port.{Gives, Hears, echo_of, line_of, options_of, settled, silent_of, wanted, patience}
 use Rattle.cct_laws_live_devices.specs.Prompt.{IsOwnAnswer, IsPrompt, IsQuiet, OneReplies}
@@ -11,6 +13,17 @@ use Rattle.cct_laws_live_devices.specs.Prompt.{IsOwnAnswer, IsPrompt, IsQuiet, O
 front_none : (one other : List ℕ) → one ++ other ≡ [] → other ≡ []
 front_none [] other is = is
 front_none (x ∷ one) other is = absurd cc
+
+or_true : (b : Bool) → (b || true) ≡ true
+or_true true = refl
+or_true false = refl
+
+-- a whole reply under the check that is known is one under either
+whole_by : (known : Option CheckKind) (sent heard : List ℕ) → answered_by known sent heard ≡ true → answered sent heard ≡ true
+whole_by None sent heard whole = whole
+whole_by (Some Simple) sent heard whole = ap (λ b. b || answered_under Crc sent heard) whole
+whole_by (Some Crc) sent heard whole =
+    ap (λ b. answered_under Simple sent heard || b) whole ∙ or_true (answered_under Simple sent heard)
 
 module _ {L : Type 0} (reads : L → Option (List ℕ) → L → Type 0) (writes : L → List ℕ → Result (Unit {0}) Failed → L → Type 0)
     (longest : ℕ) (coming : L → List ℕ) (quiet_for : L → ℕ) (answer : L → List ℕ → List ℕ)
@@ -110,7 +123,7 @@ module _ {L : Type 0} (reads : L → Option (List ℕ) → L → Type 0) (writes
           nothing = λ is.
               single sends.quiet calls.asked sent hears.bytes (coming (line_of new)) sends.writes_once all
               (ap (λ e. answered sent (echo_of e sent ++ hears.bytes)) (sym gives_echo)
-              ∙ ap (answered sent) (sym hears.hears) ∙ sym hears.settles ∙ is);
+              ∙ ap (answered sent) (sym hears.hears) ∙ whole_by hears.known sent heard (sym hears.settles ∙ is));
           counted =
               silent_for wants 0 calls.asked (line_of new) hears.bytes (silent_of new) listens.made (omega arith) listens.hearing;
         },

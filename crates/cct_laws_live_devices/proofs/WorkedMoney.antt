@@ -1,5 +1,5 @@
 -- A life with one exchange over an honest line; and what no prompt line, no chain, no wire and no world does.
-use Rattle.std.proofs.Common.{◌≡◌, inl, inr, ℕ, ◌<◌, ◌≤◌, true, false, List, [], ◌∷◌, ◌++◌, replicate, refl, sym, ap, ◌∙◌, Option, Result, arith, true≢false}
+use Rattle.std.proofs.Common.{◌≡◌, inl, inr, ℕ, ◌<◌, ◌≤◌, true, false, List, [], ◌∷◌, ◌++◌, replicate, refl, sym, ap, ◌∙◌, Option, Some, Result, arith, true≢false}
 use Rattle.std.proofs.lemmas.List.Elements.{All-cons, All-nil, All-replicate}
 use Rattle.cct_edge.specs.declared.fault.Failed.{Failed}
 use Rattle.cct_model.specs.terms.wire.CheckKind.TheVariants.{Simple}
@@ -130,6 +130,7 @@ gives_reset = record {
       };
     };
     hears = refl;
+    known = Some Simple;
     settles = refl;
     sent_whole = refl;
     no_fault = refl;

@@ -229,12 +229,7 @@ impl<L: Line> Link for Port<L> {
         self.converse(None, sent, heard);
     }
 
-    fn exchange_under(
-        &mut self,
-        kind: CheckKind,
-        sent: &[u8],
-        heard: &mut ArrayVec<u8, MOST_HEARD>,
-    )
+    fn exchange_under(&mut self, kind: CheckKind, sent: &[u8], heard: &mut ArrayVec<u8, MOST_HEARD>)
         requires { length sent.now ≤ MOST_SENT }
         ensures gives { Gives L.reads L.writes self.old sent.now heard.new.items self.new }
         ensures settles { settled self.new ≡ answered_under kind sent.now heard.new.items }

@@ -60,7 +60,7 @@ fn is_answered<L: Link>(
     ensures answered { result ≡ is_some (got kind addr form room.new.sent.items
         room.new.heard.items) }
 {
-    room.exchange(link);
+    room.exchange(kind, link);
     room.reply(kind, addr, form).is_some()
 }
 
@@ -195,18 +195,18 @@ pub fn poll_all<L: Link>(link: &mut L, kind: CheckKind, room: &mut Room)
 {
     encode_request(kind, BROADCAST, &Request::AddressPoll, &mut room.sent);
     for _ in 0..TRIES {
-        if is_echoed(link, room) {
+        if is_echoed(link, kind, room) {
             return;
         }
     }
 }
 
 /// Sends what is in the room, and says whether the echo is good.
-fn is_echoed<L: Link>(link: &mut L, room: &mut Room) -> bool
+fn is_echoed<L: Link>(link: &mut L, kind: CheckKind, room: &mut Room) -> bool
     ensures gives { L.gives link.old room.old.sent.items room.new.heard.items link.new }
     ensures sent { room.new.sent.items ≡ room.old.sent.items }
     ensures echoed { result ≡ is_some (after_echo room.new.sent.items room.new.heard.items) }
 {
-    room.exchange(link);
+    room.exchange(kind, link);
     bare_after_echo(room.sent.as_slice(), room.heard.as_slice()).is_ok()
 }

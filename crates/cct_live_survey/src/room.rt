@@ -29,14 +29,14 @@ impl Room {
         }
     }
 
-    /// Sends what is in the room.
-    pub(crate) fn exchange<L: Link>(&mut self, link: &mut L)
+    /// Sends what is in the room; the reply is under this check.
+    pub(crate) fn exchange<L: Link>(&mut self, kind: CheckKind, link: &mut L)
         ensures gives { L.gives link.old self.old.sent.items self.new.heard.items link.new }
         ensures sent { self.new.sent.items ≡ self.old.sent.items }
         ensures silent { self.new.is_silent
             ≡ (self.old.is_silent && is_bare self.new.sent.items self.new.heard.items) }
     {
-        link.exchange(self.sent.as_slice(), &mut self.heard);
+        link.exchange_under(kind, self.sent.as_slice(), &mut self.heard);
         self.is_silent = self.is_silent && is_bare(self.sent.as_slice(), self.heard.as_slice());
     }
 

@@ -47,7 +47,7 @@ pub fn value_of<L: Link>(
 {
     encode_value(kind, addr, request, &mut room.sent);
     for _ in 0..TRIES {
-        room.exchange(link);
+        room.exchange(kind, link);
         match value_in(kind, addr, request, room) {
             Some(told) => return Some(told),
             None => {}

@@ -57,7 +57,8 @@ impl<L: Line, K: Sink> Bench<L, K> {
         write_say(say, plan.setup, turn, &mut self.sent);
         self.port.set_gap(gap_before(say, turn));
         let faults = self.port.faults();
-        self.port.exchange(self.sent.as_slice(), &mut self.heard);
+        self.port
+            .exchange_under(turn.device.kind, self.sent.as_slice(), &mut self.heard);
         if self.port.faults() > faults {
             Exchanged::Fault
         } else {
