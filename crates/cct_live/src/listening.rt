@@ -1,8 +1,9 @@
 //! A link that knows whether the line gave an echo.
+ghost use Rattle.std.specs.Prelude.{◌≡◌};
 ghost use Rattle.cct_live.specs.Edges.{link_of};
 
 use arrayvec::ArrayVec;
-use cct_model_lines::MOST_HEARD;
+use cct_model_lines::{CheckKind, MOST_HEARD};
 use cct_wire::Link;
 
 /// A link over another one that knows whether a message came back whole before its reply, since it
@@ -27,6 +28,15 @@ impl<L: Link> Listening<L> {
         self.has_echoed
     }
 
+    /// Bytes were sent, and these were heard then.
+    fn note(&mut self, sent: &[u8], heard: &[u8])
+        ensures { link_of self.new ≡ link_of self.old }
+    {
+        if heard.starts_with(sent) {
+            self.has_echoed = true;
+        }
+    }
+
     /// The link.
     pub(crate) fn into_link(self) -> L {
         let Listening {
@@ -42,8 +52,16 @@ impl<L: Link> Link for Listening<L> {
 
     fn exchange(&mut self, sent: &[u8], heard: &mut ArrayVec<u8, MOST_HEARD>) {
         self.link.exchange(sent, heard);
-        if heard.as_slice().starts_with(sent) {
-            self.has_echoed = true;
-        }
+        self.note(sent, heard.as_slice());
+    }
+
+    fn exchange_under(
+        &mut self,
+        kind: CheckKind,
+        sent: &[u8],
+        heard: &mut ArrayVec<u8, MOST_HEARD>,
+    ) {
+        self.link.exchange_under(kind, sent, heard);
+        self.note(sent, heard.as_slice());
     }
 }
