@@ -4,7 +4,7 @@ ghost use Rattle.cct_model_wire.specs.declared.wire.TheConstants.{MOST_SENT};
 
 use arrayvec::ArrayVec;
 use cct_live_port::{Options, Port, StdLine};
-use cct_model_wire::MOST_HEARD;
+use cct_model_wire::{CheckKind, MOST_HEARD};
 use cct_wire::Link;
 use std::io;
 use std::io::{ErrorKind, Read, Write};
@@ -21,6 +21,12 @@ const POLL_5: &[u8] = b"\x05\x00\x21\xfe\xe5";
 const POLL_6: &[u8] = b"\x06\x00\x71\xfe\xbc";
 
 const CRC_REPLY: &[u8] = b"\x01\x00\x30\x00\x37";
+
+/// A poll of device 151 under the CRC, which is a message under the simple check too, and a reply to
+/// it under that one.
+const POLL_151: &[u8] = b"\x97\x00\x78\xfe\xf3";
+
+const SIMPLE_REPLY_151: &[u8] = b"\x01\x00\x97\x00\x68";
 
 /// The address poll by the host, and what devices 2 and 3 answer.
 const ADDRESS_POLL: &[u8] = b"\x00\x00\x01\xfd\x02";
@@ -142,6 +148,15 @@ fn heard<L: Link>(link: &mut L, sent: &[u8]) -> ArrayVec<u8, MOST_HEARD>
 {
     let mut heard = ArrayVec::new();
     link.exchange(sent, &mut heard);
+    heard
+}
+
+/// What is heard in one exchange under a check.
+fn heard_under<L: Link>(link: &mut L, kind: CheckKind, sent: &[u8]) -> ArrayVec<u8, MOST_HEARD>
+    requires { length sent.now ≤ MOST_SENT }
+{
+    let mut heard = ArrayVec::new();
+    link.exchange_under(kind, sent, &mut heard);
     heard
 }
 
@@ -365,6 +380,42 @@ fn two_messages_are_no_reply(rt: HostRuntime) {
         )
     );
     assert!(rt; !port.is_settled());
+}
+
+/// A port over a line on which a reply under the simple check comes at once to a poll of device 151,
+/// and a reply under the CRC soon after it.
+fn port_at_151() -> Port<StdLine<Played>> {
+    const REPLIES: &[Part] = &[
+        Part {
+            write: 0,
+            delay: 0,
+            bytes: SIMPLE_REPLY_151,
+        },
+        Part {
+            write: 0,
+            delay: 2,
+            bytes: CRC_REPLY,
+        },
+    ];
+    port(Played::new(REPLIES))
+}
+
+#[test]
+fn a_reply_under_another_check_is_waited_out(rt: HostRuntime) {
+    let mut asked = port_at_151();
+    let first = heard_under(&mut asked, CheckKind::Crc, POLL_151);
+    assert!(rt; is_both(&first, POLL_151, SIMPLE_REPLY_151));
+    assert!(rt; !asked.is_settled());
+    // In the silence before it is asked again the reply comes that was wanted, and is dropped.
+    let second = heard_under(&mut asked, CheckKind::Crc, POLL_151);
+    assert_eq!(rt; second.as_slice(), POLL_151);
+
+    let mut other = port_at_151();
+    let first = heard_under(&mut other, CheckKind::Simple, POLL_151);
+    assert!(rt; is_both(&first, POLL_151, SIMPLE_REPLY_151));
+    assert!(rt; other.is_settled());
+    let second = heard_under(&mut other, CheckKind::Simple, POLL_151);
+    assert!(rt; is_both(&second, POLL_151, CRC_REPLY));
 }
 
 #[test]
