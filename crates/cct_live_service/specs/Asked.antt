@@ -20,11 +20,12 @@ asked_before (Pay addr id count) = Some addr
 asked_before (Start addr mask) = Some addr
 asked_before c = None
 
--- Nobody is asked.
+-- whether nobody is asked
 abbrev pub is_nobody : Option ℕ → Bool
 is_nobody None = true
 is_nobody (Some addr) = false
 
+-- Nobody is asked.
 abbrev pub IsNobody : Option ℕ → Type 0
 IsNobody None = ⊤
 IsNobody (Some addr) = ⊥
